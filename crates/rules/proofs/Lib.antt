@@ -1,0 +1,3 @@
+pub mod FactLaws
+pub mod SumLaws
+pub mod SoundLaws

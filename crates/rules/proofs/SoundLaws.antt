@@ -1,0 +1,115 @@
+-- Soundness: its test and its claims agree, and what a sound board says of each entry.
+use mathlib.Core.Path.{_≡_, refl, sym, ap, subst, _∙_}
+use mathlib.Core.Bool.{Bool, true, false, cond, _&&_}
+use mathlib.Core.List.{List, [], _∷_}
+use Prim.Native.Nat.{ℕ, zero, suc, _+_, _≤_, _<_}
+use native.Mathlib.Omega.{arith}
+use lib.ListN.{length, getD, List·getD-eq-default}
+use lib.Dec.{ltb}
+use borrow.Author.Tests.{lt-ltb, le-ltb, ltb-true, ltb-false}
+use Rattle.rules.specs.Facts.{Fact, Claims, tests, Each, each, sumOf, oneIf}
+use Rattle.rules.specs.Words.{isIdle, isActive, isEmpty, blankUnit, blankSlot, parentAt, unitAt, slotAt}
+use Rattle.rules.specs.Sound.{sizes, parentRow, lowerParent, unitRow, stateRow, slotRow, kindRow, pendingRow, pendingIn, pending, debtRow, unitsWeight, slotsWeight, weightOut, Sound, soundRow, sound}
+use Rattle.rules.proofs.FactLaws.{claims, claims-tested, each-claims, each-tested, each-at}
+use Rattle.rules.proofs.SumLaws.{sum-part}
+use Rattle.rules.specs.declared.State.{State}
+use Rattle.rules.specs.declared.State.the-variants.{Idle, Active, Waiting}
+use Rattle.rules.specs.declared.Kind.{Kind}
+use Rattle.rules.specs.declared.Kind.the-variants.{Empty, Work, Return, Request, Supply}
+use Rattle.rules.specs.declared.UnitRecord.{UnitRecord}
+use Rattle.rules.specs.declared.Slot.{Slot}
+use Rattle.rules.specs.declared.Board.{Board}
+
+-- ---- the test says true exactly where the board is sound
+pub sound-claims : (b : Board) → sound b ≡ true → Sound b
+unfolding sound
+sound-claims b e =
+    let t = claims (soundRow b) e in
+    record {
+      s1-sizes = claims (sizes b) (t .0);
+      s1-parents = each-claims (parentRow b) (b .parents) (t .1 .0);
+      s2-units = each-claims (unitRow b) (b .units) (t .1 .1 .0);
+      s3-slots = each-claims (slotRow b) (b .slots) (t .1 .1 .1 .0);
+      s4-pending = each-claims (pendingRow b) (b .units) (t .1 .1 .1 .1 .0);
+      s5-s6-debt = claims (debtRow b) (t .1 .1 .1 .1 .1 .0);
+    }
+
+pub sound-tested : (b : Board) → Sound b → sound b ≡ true
+unfolding sound
+sound-tested b h =
+    claims-tested (soundRow b) (
+      claims-tested (sizes b) (h .s1-sizes),
+      (
+        each-tested (parentRow b) (b .parents) (h .s1-parents),
+        (
+          each-tested (unitRow b) (b .units) (h .s2-units),
+          (
+            each-tested (slotRow b) (b .slots) (h .s3-slots),
+            (each-tested (pendingRow b) (b .units) (h .s4-pending), (claims-tested (debtRow b) (h .s5-s6-debt), tt)),
+          ),
+        ),
+      ),
+    )
+
+-- ---- a row that depends on whether the entry is in use
+pub row-in-use : (i n : ℕ) (used blank : List Fact) → i < n → Claims (cond (ltb i n) used blank) → Claims used
+row-in-use i n used blank l h = subst (λ (t : Bool). Claims (cond t used blank)) (lt-ltb i n l) h
+
+pub row-past : (i n : ℕ) (used blank : List Fact) → n ≤ i → Claims (cond (ltb i n) used blank) → Claims blank
+row-past i n used blank l h = subst (λ (t : Bool). Claims (cond t used blank)) (le-ltb i n l) h
+
+pub row-of : (i n : ℕ) (used blank : List Fact) → (i < n → Claims used) → (n ≤ i → Claims blank) → Claims (cond (ltb i n) used blank)
+row-of i n used blank f g = by-test (ltb i n) refl
+  where
+    by-test : (t : Bool) → ltb i n ≡ t → Claims (cond t used blank)
+    by-test true e = f (ltb-true i n e)
+    by-test false e = g (ltb-false i n e)
+
+-- a number is below the bound, or it is not
+pub below-or-not : {X : Type 0} (i n : ℕ) → (i < n → X) → (n ≤ i → X) → X
+below-or-not {X} i n f g = by-test (ltb i n) refl
+  where
+    by-test : (t : Bool) → ltb i n ≡ t → X
+    by-test true e = f (ltb-true i n e)
+    by-test false e = g (ltb-false i n e)
+
+-- ---- the entries of a sound board
+module _ (b : Board) (h : Sound b) where
+  pub parent-row : (i : ℕ) → i < b .n → Claims (lowerParent i (parentAt b i))
+  parent-row i l = row-in-use i (b .n) (lowerParent i (parentAt b i)) _ l (each-at (parentRow b) (b .parents) i 0 (omega arith) (h .s1-parents))
+
+  -- every other unit's parent has a lower number; unit 0's is 0
+  pub parent-below : (i : ℕ) → 1 ≤ i → i < b .n → parentAt b i < i
+  parent-below zero p l = absurd (native.Mathlib.Nat.not-suc-le-zero p)
+  parent-below (suc i) p l = parent-row (suc i) l .0
+
+  pub unit-row : (i : ℕ) → i < b .n → Claims (stateRow (b .delay) i (unitAt b i) (unitAt b i .state))
+  unit-row i l = row-in-use i (b .n) (stateRow (b .delay) i (unitAt b i) (unitAt b i .state)) _ l (each-at (unitRow b) (b .units) i blankUnit (omega arith) (h .s2-units))
+
+  pub unit-past : (i : ℕ) → b .n ≤ i → isIdle (unitAt b i .state) ≡ true
+  unit-past i l =
+      below-or-not i 64 (λ p. row-past i (b .n) (stateRow (b .delay) i (unitAt b i) (unitAt b i .state)) _ l (each-at (unitRow b) (b .units) i blankUnit (omega arith) (h .s2-units)) .0)
+      (λ p. ap (λ (u : UnitRecord). isIdle (u .state)) (List·getD-eq-default (b .units) blankUnit (omega arith)))
+
+  pub slot-row : (j : ℕ) → j < b .m → Claims (kindRow b (slotAt b j) (slotAt b j .kind))
+  slot-row j l = row-in-use j (b .m) (kindRow b (slotAt b j) (slotAt b j .kind)) _ l (each-at (slotRow b) (b .slots) j blankSlot (omega arith) (h .s3-slots))
+
+  pub slot-past : (j : ℕ) → b .m ≤ j → isEmpty (slotAt b j .kind) ≡ true
+  slot-past j l =
+      below-or-not j 256 (λ p. row-past j (b .m) (kindRow b (slotAt b j) (slotAt b j .kind)) _ l (each-at (slotRow b) (b .slots) j blankSlot (omega arith) (h .s3-slots)) .0)
+      (λ p. ap (λ (y : Slot). isEmpty (y .kind)) (List·getD-eq-default (b .slots) blankSlot (omega arith)))
+
+  pub pending-row : (i : ℕ) → i < 64 → pending (b .slots) i ≡ oneIf (unitAt b i .suspended)
+  pending-row i l = each-at (pendingRow b) (b .units) i blankUnit (omega arith) (h .s4-pending) .0
+
+  -- a weight is part of the debt
+  pub unit-weight : (i : ℕ) → i < 64 → unitAt b i .weight ≤ unitsWeight (b .units)
+  unfolding unitsWeight
+  unit-weight i l = sum-part (λ k u. u .weight) (b .units) i blankUnit (omega arith)
+
+  pub slot-weight : (j : ℕ) → j < 256 → slotAt b j .weight ≤ slotsWeight (b .slots)
+  unfolding slotsWeight
+  slot-weight j l = sum-part (λ k y. y .weight) (b .slots) j blankSlot (omega arith)
+
+  pub weights-fit : (i j : ℕ) → i < 64 → j < 256 → unitAt b i .weight + slotAt b j .weight ≤ b .debt
+  weights-fit i j p q = omega (arith, unit-weight i p, slot-weight j q, h .s5-s6-debt)

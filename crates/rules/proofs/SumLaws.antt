@@ -1,0 +1,50 @@
+-- Sums over lists: after a store, against a part, a part above 0, two sums compared part by part.
+use mathlib.Core.Path.{_≡_, refl}
+use mathlib.Core.List.{List, [], _∷_}
+use Prim.Native.Nat.{ℕ, zero, suc, _+_, _*_, _≤_, _<_, suc-le-suc, zero-le}
+use native.Mathlib.Nat.{le-of-suc-le-suc, not-suc-le-zero, add-mul}
+use native.Mathlib.Omega.{arith}
+use lib.ListN.{length, getD, set}
+use Rattle.rules.specs.Facts.{sumOf}
+
+pub sum-set : {A : Type 0} (f : ℕ → A → ℕ) (xs : List A) (i : ℕ) (a d : A) → i < length xs → sumOf f (set xs i a) + f i (getD xs i d) ≡ sumOf f xs + f i a
+unfolding sumOf
+sum-set f [] i a d l = absurd (not-suc-le-zero l)
+sum-set f (x ∷ xs) zero a d l = omega arith
+sum-set f (x ∷ xs) (suc i) a d l = omega (arith, sum-set (λ k. f (suc k)) xs i a d (le-of-suc-le-suc l))
+
+pub sum-part : {A : Type 0} (f : ℕ → A → ℕ) (xs : List A) (i : ℕ) (d : A) → i < length xs → f i (getD xs i d) ≤ sumOf f xs
+unfolding sumOf
+sum-part f [] i d l = absurd (not-suc-le-zero l)
+sum-part f (x ∷ xs) zero d l = omega arith
+sum-part f (x ∷ xs) (suc i) d l = omega (arith, sum-part (λ k. f (suc k)) xs i d (le-of-suc-le-suc l))
+
+-- a sum above 0 has a part above 0
+pub record PartAbove {A : Type 0} (f : ℕ → A → ℕ) (xs : List A) (d : A) : Type 0 where
+  pub place : ℕ
+  pub within : place < length xs
+  pub above : 1 ≤ f place (getD xs place d)
+
+pub sum-above : {A : Type 0} (f : ℕ → A → ℕ) (xs : List A) (d : A) → 1 ≤ sumOf f xs → PartAbove f xs d
+unfolding sumOf
+sum-above f [] d p = absurd (not-suc-le-zero p)
+sum-above f (x ∷ xs) d p = by-head (f 0 x) refl (sum-above (λ k. f (suc k)) xs d)
+  where
+    by-head : (k : ℕ) → f 0 x ≡ k → (1 ≤ sumOf (λ i. f (suc i)) xs → PartAbove (λ i. f (suc i)) xs d) → PartAbove f (x ∷ xs) d
+    by-head zero e rest =
+        let found : PartAbove (λ i. f (suc i)) xs d = rest (omega (arith, p, e)) in
+        record { place = suc (found .place); within = suc-le-suc (found .within); above = found .above }
+    by-head (suc k) e rest = record { place = 0; within = suc-le-suc zero-le; above = omega (arith, e) }
+
+-- a bound of the parts bounds the sums
+pub sum-bound : {A : Type 0} (f g : ℕ → A → ℕ) (k : ℕ) (xs : List A) (d : A) → ((i : ℕ) → i < length xs → f i (getD xs i d) ≤ g i (getD xs i d) * k) → sumOf f xs ≤ sumOf g xs * k
+unfolding sumOf
+sum-bound f g k [] d h = zero-le
+sum-bound f g k (x ∷ xs) d h =
+    omega (arith, add-mul (g 0 x) (sumOf (λ i. g (suc i)) xs) k, h 0 (suc-le-suc zero-le), sum-bound (λ i. f (suc i)) (λ i. g (suc i)) k xs d (λ i l. h (suc i) (suc-le-suc l)))
+
+-- equal parts, equal sums
+pub sum-same : {A : Type 0} (f g : ℕ → A → ℕ) (xs : List A) (d : A) → ((i : ℕ) → i < length xs → f i (getD xs i d) ≡ g i (getD xs i d)) → sumOf f xs ≡ sumOf g xs
+unfolding sumOf
+sum-same f g [] d h = refl
+sum-same f g (x ∷ xs) d h = omega (arith, h 0 (suc-le-suc zero-le), sum-same (λ i. f (suc i)) (λ i. g (suc i)) xs d (λ i l. h (suc i) (suc-le-suc l)))

@@ -1,0 +1,49 @@
+-- The guarantee, demand 3: one claim about every accepted opening and every list of steps, in whatever order.
+use mathlib.Core.Path.{_≡_}
+use mathlib.Core.List.{List}
+use mathlib.Core.Logic.{_↔_}
+use Prim.Native.Nat.{ℕ, _+_, _*_, _≤_, _<_, _^_}
+use lib.ListN.{length}
+use Rattle.rules.specs.Words.{grant}
+use Rattle.rules.specs.Sound.{Sound, weightOut}
+use Rattle.rules.specs.Opening.{opening}
+use Rattle.rules.specs.Lists.{after, tally, startCount, grantCount, takenCount}
+use Rattle.rules.specs.Drains.{verdict, Complete, Quiet, Drain, DrainStep, drainBound}
+use Rattle.rules.specs.declared.Board.{Board}
+use Rattle.rules.specs.declared.StepRecord.{StepRecord}
+use Rattle.rules.specs.declared.Verdict.the-variants.{Finished}
+
+-- a step record that can be handed over: its fields have 16 bits
+pub record Fits16 (r : StepRecord) : Type 0 where
+  pub kind : r .kind < 2 ^ 16
+  pub unit : r .unit < 2 ^ 16
+  pub other : r .other < 2 ^ 16
+  pub slot : r .slot < 2 ^ 16
+
+-- a step that makes a drain that has led to b one longer
+pub record Longer (b : Board) : Type 0 where
+  pub next : StepRecord
+  pub fits : Fits16 next
+  pub drains : DrainStep b next
+
+-- every drain from b is bounded, and until finished some step makes it one longer
+pub record Drains (b : Board) : Type 0 where
+  pub bounded : (rs : List StepRecord) → Drain b rs → length rs ≤ drainBound b
+  pub unstuck : (rs : List StepRecord) → Drain b rs → (verdict (after b rs) ≡ Finished → ⊥) → Longer (after b rs)
+
+-- what holds of the board b that the list rs left, where rs began on the board f
+pub record Guaranteed (f : Board) (rs : List StepRecord) (b : Board) : Type 0 where
+  -- the board is sound
+  pub is-sound : Sound b
+  -- weight is conserved: what is in units and slots is the debt
+  pub conserved : weightOut b ≡ b .debt
+  -- the debt and what unit 0 took back are what starts and grants brought in
+  pub accounted : b .debt + tally takenCount f rs ≡ grant * (tally startCount f rs + tally grantCount f rs)
+  -- finished is said exactly when every unit is idle and every slot empty
+  pub finished : (verdict b ≡ Finished) ↔ Complete b
+  -- with no unit active and no work under way, drains are bounded and never stuck
+  pub drains : Quiet b → Drains b
+
+-- for every accepted opening and every list of steps
+unfoldable pub Guarantee : Type 0
+Guarantee = (m d : ℕ) (ps : List ℕ) (rs : List StepRecord) → opening m d ps .answer ≡ 0 → Guaranteed (opening m d ps .board) rs (after (opening m d ps .board) rs)

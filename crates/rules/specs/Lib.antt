@@ -1,0 +1,10 @@
+-- What a reader must believe, in the order to read it.
+pub mod Facts
+pub mod Words
+pub mod Sound
+pub mod Opening
+pub mod Depths
+pub mod Steps
+pub mod Lists
+pub mod Drains
+pub mod Guarantee

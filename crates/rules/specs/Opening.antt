@@ -1,0 +1,50 @@
+-- Opening a board from M, d and the parents of units 1 on.
+use mathlib.Core.List.{List, [], _∷_, _++_}
+use mathlib.Core.Bool.{Bool}
+use Prim.Native.Nat.{ℕ, suc, _-_}
+use lib.ListN.{length, replicate}
+use Rattle.rules.specs.Facts.{Check, check, atMost, below, holds, each, judge}
+use Rattle.rules.specs.Words.{blankUnit, blankSlot}
+use Rattle.rules.specs.declared.Board.{Board}
+use Rattle.rules.specs.declared.Outcome.{Outcome}
+
+-- "a parent not below its unit": the list begins with unit 1's parent
+unfoldable pub lowerParents : List ℕ → Bool
+lowerParents ps = each (λ i p. below p (suc i) ∷ []) ps
+
+-- 11 more than 63 parents, M outside 1 to 256, or d over 255; 12 a parent not below its unit
+abbrev pub openingChecks : ℕ → ℕ → List ℕ → List Check
+openingChecks m d ps =
+    check (atMost (length ps) 63) 11
+    ∷ check (atMost 1 m) 11
+    ∷ check (atMost m 256) 11
+    ∷ check (atMost d 255) 11
+    ∷ check (holds (lowerParents ps)) 12
+    ∷ []
+
+-- "The fresh board has debt 0, all idle and empty"; n is the number of parents plus 1
+unfoldable pub fresh : ℕ → ℕ → List ℕ → Board
+fresh m d ps = record {
+  n = suc (length ps);
+  m = m;
+  delay = d;
+  debt = 0;
+  parents = 0 ∷ ps ++ replicate (63 - length ps) 0;
+  units = replicate 64 blankUnit;
+  slots = replicate 256 blankSlot;
+}
+
+-- "a blank board with n = 0", what a refused opening hands back
+unfoldable pub blankBoard : Board
+blankBoard = record {
+  n = 0;
+  m = 0;
+  delay = 0;
+  debt = 0;
+  parents = replicate 64 0;
+  units = replicate 64 blankUnit;
+  slots = replicate 256 blankSlot;
+}
+
+unfoldable pub opening : ℕ → ℕ → List ℕ → Outcome
+opening m d ps = judge (λ k. record { answer = k; board = blankBoard }) (openingChecks m d ps) (record { answer = 0; board = fresh m d ps })

@@ -1,0 +1,224 @@
+-- The seven steps: for each its checks in the order of its bracket, then what an accepted step does.
+use mathlib.Core.Bool.{Bool, true, false, cond}
+use mathlib.Core.List.{List, [], _∷_}
+use Prim.Native.Nat.{ℕ, suc, _+_, _-_, _/_}
+use lib.ListN.{getD, set}
+use lib.Dec.{leb, eqb}
+use Rattle.rules.specs.Facts.{Check, check, below, atMost, equal, holds, fails, judge}
+use Rattle.rules.specs.Words.{isActive, isWaiting, isEmpty, isRequest, blankUnit, blankSlot, parentAt, unitAt, slotAt, grant, ceiling}
+use Rattle.rules.specs.Sound.{sound}
+use Rattle.rules.specs.declared.State.{State}
+use Rattle.rules.specs.declared.State.the-variants.{Idle, Active, Waiting}
+use Rattle.rules.specs.declared.Kind.{Kind}
+use Rattle.rules.specs.declared.Kind.the-variants.{Empty, Work, Return, Request, Supply}
+use Rattle.rules.specs.declared.Action.{Action}
+use Rattle.rules.specs.declared.Action.the-variants.{Unknown, Start, Send, Request as RequestStep, Deliver, Rest, Tick, Release}
+use Rattle.rules.specs.declared.Effect.{Effect}
+use Rattle.rules.specs.declared.Effect.the-variants.{Refused, OnUnit, OnSlot, OnBoth}
+use Rattle.rules.specs.declared.UnitRecord.{UnitRecord}
+use Rattle.rules.specs.declared.Slot.{Slot}
+use Rattle.rules.specs.declared.Board.{Board}
+use Rattle.rules.specs.declared.StepRecord.{StepRecord}
+use Rattle.rules.specs.declared.Shared.{Shared}
+use Rattle.rules.specs.declared.Outcome.{Outcome}
+
+-- "Share": 2^10 if W is at least 2^11, else half of W rounded down
+abbrev pub share : ℕ → ℕ
+share w = cond (leb 2048 w) 1024 (w / 2)
+
+-- a unit with another weight
+abbrev pub withWeight : UnitRecord → ℕ → UnitRecord
+withWeight x w = record { weight = w; countdown = x .countdown; state = x .state; suspended = x .suspended }
+
+-- "A unit gives a share and hands back itself with what it keeps"
+abbrev pub shared : UnitRecord → Shared
+shared x = record { unit = withWeight x (x .weight - share (x .weight)); given = share (x .weight) }
+
+-- a message, a waiting unit
+abbrev pub message : Kind → ℕ → ℕ → ℕ → Slot
+message k u v w = record { weight = w; from = u; to = v; kind = k }
+
+abbrev pub waitingWith : ℕ → ℕ → UnitRecord
+waitingWith w d = record { weight = w; countdown = d; state = Waiting; suspended = false }
+
+-- start u [13, 37]
+abbrev pub startChecks : ℕ → List Check
+startChecks debt = check (equal debt 0) 37 ∷ []
+
+abbrev pub startEffect : Effect
+startEffect = OnUnit (record { weight = grant; countdown = 0; state = Active; suspended = false }) grant
+
+-- send u v s [13 for u or v, 14, 31, 32, 34, 33]
+abbrev pub sendChecks : UnitRecord → Slot → List Check
+sendChecks x y =
+    check (holds (isActive (x .state))) 31
+    ∷ check (fails (x .suspended)) 32
+    ∷ check (holds (isEmpty (y .kind))) 34
+    ∷ check (atMost 2 (x .weight)) 33
+    ∷ []
+
+abbrev pub sendEffect : ℕ → ℕ → ℕ → UnitRecord → Effect
+sendEffect debt u v x = OnBoth (shared x .unit) (message Work u v (shared x .given)) debt
+
+-- request u s [13, 14, 31, 32, 41, 34]
+abbrev pub requestChecks : UnitRecord → Slot → List Check
+requestChecks x y =
+    check (holds (isActive (x .state))) 31
+    ∷ check (fails (x .suspended)) 32
+    ∷ check (atMost (x .weight) 1) 41
+    ∷ check (holds (isEmpty (y .kind))) 34
+    ∷ []
+
+abbrev pub requestEffect : ℕ → ℕ → UnitRecord → Effect
+requestEffect debt u x = OnBoth (record { weight = x .weight; countdown = x .countdown; state = x .state; suspended = true }) (message Request u 0 0) debt
+
+-- deliver s [14, 35, 36]; 36 is asked of a request alone
+abbrev pub grantFits : ℕ → Kind → List Check
+grantFits debt Empty = []
+grantFits debt Work = []
+grantFits debt Return = []
+grantFits debt Request = check (atMost (debt + grant) ceiling) 36 ∷ []
+grantFits debt Supply = []
+
+abbrev pub deliverChecks : ℕ → Slot → List Check
+deliverChecks debt y = check (fails (isEmpty (y .kind))) 35 ∷ grantFits debt (y .kind)
+
+-- work: weight added to the receiver, which becomes active with countdown 0; a suspended one stays so
+abbrev pub worked : UnitRecord → ℕ → UnitRecord
+worked x w = record { weight = x .weight + w; countdown = 0; state = Active; suspended = x .suspended }
+
+-- a return to another unit than 0: weight added; an active one stays active, an idle or waiting one is waiting with countdown d
+abbrev pub returned : ℕ → UnitRecord → ℕ → State → UnitRecord
+returned d x w Idle = waitingWith (x .weight + w) d
+returned d x w Active = withWeight x (x .weight + w)
+returned d x w Waiting = waitingWith (x .weight + w) d
+
+-- a supply: weight added, suspension ends
+abbrev pub supplied : UnitRecord → ℕ → UnitRecord
+supplied x w = record { weight = x .weight + w; countdown = x .countdown; state = x .state; suspended = false }
+
+-- a return to unit 0: its weight is taken off the debt
+abbrev pub returnEffect : ℕ → ℕ → UnitRecord → Slot → Effect
+returnEffect debt d x y = cond (eqb (y .to) 0) (OnSlot blankSlot (debt - y .weight)) (OnBoth (returned d x (y .weight) (x .state)) blankSlot debt)
+
+-- x is the receiver. A request becomes the supply to its sender, and the debt grows
+abbrev pub deliverEffect : ℕ → ℕ → UnitRecord → Slot → Kind → Effect
+deliverEffect debt d x y Empty = Refused 35
+deliverEffect debt d x y Work = OnBoth (worked x (y .weight)) blankSlot debt
+deliverEffect debt d x y Return = returnEffect debt d x y
+deliverEffect debt d x y Request = OnSlot (message Supply 0 (y .from) grant) (debt + grant)
+deliverEffect debt d x y Supply = OnBoth (supplied x (y .weight)) blankSlot debt
+
+-- rest u [13, 31, 32]: unit 0 takes its weight off the debt and is idle; any other is waiting with countdown d
+abbrev pub restChecks : UnitRecord → List Check
+restChecks x = check (holds (isActive (x .state))) 31 ∷ check (fails (x .suspended)) 32 ∷ []
+
+abbrev pub restEffect : ℕ → ℕ → ℕ → UnitRecord → Effect
+restEffect debt d u x = cond (eqb u 0) (OnUnit blankUnit (debt - x .weight)) (OnUnit (waitingWith (x .weight) d) debt)
+
+-- tick u [13, 38, 39]: countdown falls by 1
+abbrev pub tickChecks : UnitRecord → List Check
+tickChecks x = check (holds (isWaiting (x .state))) 38 ∷ check (atMost 1 (x .countdown)) 39 ∷ []
+
+abbrev pub tickEffect : ℕ → UnitRecord → Effect
+tickEffect debt x = OnUnit (record { weight = x .weight; countdown = x .countdown - 1; state = x .state; suspended = x .suspended }) debt
+
+-- release u s [13, 14, 38, 40, 34]: s becomes a return from u to its parent p with all its weight; u is idle
+abbrev pub releaseChecks : UnitRecord → Slot → List Check
+releaseChecks x y =
+    check (holds (isWaiting (x .state))) 38
+    ∷ check (equal (x .countdown) 0) 40
+    ∷ check (holds (isEmpty (y .kind))) 34
+    ∷ []
+
+abbrev pub releaseEffect : ℕ → ℕ → ℕ → UnitRecord → Effect
+releaseEffect debt u p x = OnBoth blankUnit (message Return u p (x .weight)) debt
+
+-- a step record's kind, 1 to 7 in the order above
+abbrev pub actionOf : ℕ → Action
+actionOf k = getD (Unknown ∷ Start ∷ Send ∷ RequestStep ∷ Deliver ∷ Rest ∷ Tick ∷ Release ∷ []) k Unknown
+
+-- the unit and the slot that a step may change: a delivery's unit is the receiver
+abbrev pub unitOf : Board → StepRecord → Action → ℕ
+unitOf b r Unknown = 0
+unitOf b r Start = r .unit
+unitOf b r Send = r .unit
+unitOf b r RequestStep = r .unit
+unitOf b r Deliver = slotAt b (r .slot) .to
+unitOf b r Rest = r .unit
+unitOf b r Tick = r .unit
+unitOf b r Release = r .unit
+
+abbrev pub slotOf : StepRecord → Action → ℕ
+slotOf r Unknown = 0
+slotOf r Start = 0
+slotOf r Send = r .slot
+slotOf r RequestStep = r .slot
+slotOf r Deliver = r .slot
+slotOf r Rest = 0
+slotOf r Tick = 0
+slotOf r Release = r .slot
+
+-- the head of each bracket: 13 unit not below n, 14 slot not below M, for the letters that the kind has
+abbrev pub placeChecks : ℕ → ℕ → StepRecord → Action → List Check
+placeChecks n m r Unknown = []
+placeChecks n m r Start = check (below (r .unit) n) 13 ∷ []
+placeChecks n m r Send = check (below (r .unit) n) 13 ∷ check (below (r .other) n) 13 ∷ check (below (r .slot) m) 14 ∷ []
+placeChecks n m r RequestStep = check (below (r .unit) n) 13 ∷ check (below (r .slot) m) 14 ∷ []
+placeChecks n m r Deliver = check (below (r .slot) m) 14 ∷ []
+placeChecks n m r Rest = check (below (r .unit) n) 13 ∷ []
+placeChecks n m r Tick = check (below (r .unit) n) 13 ∷ []
+placeChecks n m r Release = check (below (r .unit) n) 13 ∷ check (below (r .slot) m) 14 ∷ []
+
+-- the rest of each bracket, on the records that the step may change: the unit x and the slot y
+abbrev pub recordChecks : ℕ → UnitRecord → Slot → Action → List Check
+recordChecks debt x y Unknown = []
+recordChecks debt x y Start = startChecks debt
+recordChecks debt x y Send = sendChecks x y
+recordChecks debt x y RequestStep = requestChecks x y
+recordChecks debt x y Deliver = deliverChecks debt y
+recordChecks debt x y Rest = restChecks x
+recordChecks debt x y Tick = tickChecks x
+recordChecks debt x y Release = releaseChecks x y
+
+-- what an accepted step does on them; p is the unit's parent. 16 kind outside 1 to 7
+abbrev pub recordEffect : ℕ → ℕ → StepRecord → UnitRecord → ℕ → Slot → Action → Effect
+recordEffect debt d r x p y Unknown = Refused 16
+recordEffect debt d r x p y Start = startEffect
+recordEffect debt d r x p y Send = sendEffect debt (r .unit) (r .other) x
+recordEffect debt d r x p y RequestStep = requestEffect debt (r .unit) x
+recordEffect debt d r x p y Deliver = deliverEffect debt d x y (y .kind)
+recordEffect debt d r x p y Rest = restEffect debt d (r .unit) x
+recordEffect debt d r x p y Tick = tickEffect debt x
+recordEffect debt d r x p y Release = releaseEffect debt (r .unit) p x
+
+-- on the records alone: the rest of the bracket, then the effect
+unfoldable pub recordRule : ℕ → ℕ → StepRecord → UnitRecord → ℕ → Slot → Action → Effect
+recordRule debt d r x p y a = judge Refused (recordChecks debt x y a) (recordEffect debt d r x p y a)
+
+-- the whole bracket, then the effect
+abbrev pub effectBy : Board → StepRecord → Action → Effect
+effectBy b r a =
+    judge Refused (placeChecks (b .n) (b .m) r a)
+    (recordRule (b .debt) (b .delay) r (unitAt b (unitOf b r a)) (parentAt b (unitOf b r a)) (slotAt b (slotOf r a)) a)
+
+unfoldable pub effect : Board → StepRecord → Effect
+effect b r = effectBy b r (actionOf (r .kind))
+
+-- the board with one unit, one slot or both changed, and the debt
+abbrev pub changed : Board → List UnitRecord → List Slot → ℕ → Board
+changed b us ys debt = record { n = b .n; m = b .m; delay = b .delay; debt = debt; parents = b .parents; units = us; slots = ys }
+
+unfoldable pub applied : Board → ℕ → ℕ → Effect → Outcome
+applied b u s (Refused k) = record { answer = k; board = b }
+applied b u s (OnUnit x debt) = record { answer = 0; board = changed b (set (b .units) u x) (b .slots) debt }
+applied b u s (OnSlot y debt) = record { answer = 0; board = changed b (b .units) (set (b .slots) s y) debt }
+applied b u s (OnBoth x y debt) = record { answer = 0; board = changed b (set (b .units) u x) (set (b .slots) s y) debt }
+
+-- a step on a board known to be sound
+unfoldable pub soundStep : Board → StepRecord → Outcome
+soundStep b r = applied b (unitOf b r (actionOf (r .kind))) (slotOf r (actionOf (r .kind))) (effect b r)
+
+-- a step on any board: "30 precedes all"
+unfoldable pub step : Board → StepRecord → Outcome
+step b r = judge (λ k. record { answer = k; board = b }) (check (holds (sound b)) 30 ∷ []) (soundStep b r)
