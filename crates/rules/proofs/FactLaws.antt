@@ -4,7 +4,7 @@ use mathlib.Core.Bool.{Bool, true, false, not, cond, _&&_}
 use mathlib.Core.List.{List, [], _∷_, _++_}
 use Prim.Native.Nat.{ℕ, zero, suc, _≤_, _<_}
 use native.Mathlib.Nat.{le-of-suc-le-suc, not-suc-le-zero}
-use native.Mathlib.Decide.{ℕ-discrete}
+use native.Mathlib.Omega.{arith}
 use lib.ListN.{length, getD, set}
 use lib.Dec.{ltb}
 use borrow.Author.Tests.{leb-true, le-leb, eqb-true, eq-eqb, not-true}
@@ -22,6 +22,9 @@ and-right false false e = e
 pub and-both : (s t : Bool) → s ≡ true → t ≡ true → s && t ≡ true
 and-both true t p q = q
 and-both false t p q = p
+
+pub true-not-false : true ≡ false → ⊥
+true-not-false e = let o : _≡_ {A = ℕ} 0 1 = cc in omega arith
 
 pub true-or-false : (t : Bool) → (t ≡ false → ⊥) → t ≡ true
 true-or-false true n = refl

@@ -1,3 +1,13 @@
 pub mod FactLaws
 pub mod SumLaws
 pub mod SoundLaws
+pub mod Changes
+pub mod Accepted
+pub mod StepFits
+pub mod FreshSound
+pub mod ListLaws
+pub mod FinishedLaws
+pub mod DepthLaws
+pub mod Potential
+pub mod DrainLaws
+pub mod Theorem

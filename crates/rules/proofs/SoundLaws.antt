@@ -7,15 +7,15 @@ use native.Mathlib.Omega.{arith}
 use lib.ListN.{length, getD, List·getD-eq-default}
 use lib.Dec.{ltb}
 use borrow.Author.Tests.{lt-ltb, le-ltb, ltb-true, ltb-false}
-use Rattle.rules.specs.Facts.{Fact, Claims, tests, Each, each, sumOf, oneIf}
+use Rattle.rules.specs.Facts.{Fact, holds, Claims, tests, Each, each, sumOf, oneIf}
 use Rattle.rules.specs.Words.{isIdle, isActive, isEmpty, blankUnit, blankSlot, parentAt, unitAt, slotAt}
 use Rattle.rules.specs.Sound.{sizes, parentRow, lowerParent, unitRow, stateRow, slotRow, kindRow, pendingRow, pendingIn, pending, debtRow, unitsWeight, slotsWeight, weightOut, Sound, soundRow, sound}
 use Rattle.rules.proofs.FactLaws.{claims, claims-tested, each-claims, each-tested, each-at}
 use Rattle.rules.proofs.SumLaws.{sum-part}
 use Rattle.rules.specs.declared.State.{State}
-use Rattle.rules.specs.declared.State.the-variants.{Idle, Active, Waiting}
+use Rattle.rules.specs.declared.State.the-variants.{Idle}
 use Rattle.rules.specs.declared.Kind.{Kind}
-use Rattle.rules.specs.declared.Kind.the-variants.{Empty, Work, Return, Request, Supply}
+use Rattle.rules.specs.declared.Kind.the-variants.{Empty}
 use Rattle.rules.specs.declared.UnitRecord.{UnitRecord}
 use Rattle.rules.specs.declared.Slot.{Slot}
 use Rattle.rules.specs.declared.Board.{Board}
@@ -86,18 +86,32 @@ module _ (b : Board) (h : Sound b) where
   pub unit-row : (i : ℕ) → i < b .n → Claims (stateRow (b .delay) i (unitAt b i) (unitAt b i .state))
   unit-row i l = row-in-use i (b .n) (stateRow (b .delay) i (unitAt b i) (unitAt b i .state)) _ l (each-at (unitRow b) (b .units) i blankUnit (omega arith) (h .s2-units))
 
+  -- an entry from n on is blank
+  unit-past-row : (i : ℕ) → b .n ≤ i → Claims (holds (isIdle (unitAt b i .state)) ∷ stateRow (b .delay) i (unitAt b i) Idle)
+  unit-past-row i l =
+      below-or-not i 64 (λ p. row-past i (b .n) (stateRow (b .delay) i (unitAt b i) (unitAt b i .state)) _ l (each-at (unitRow b) (b .units) i blankUnit (omega arith) (h .s2-units)))
+      (λ p. subst (λ (u : UnitRecord). Claims (holds (isIdle (u .state)) ∷ stateRow (b .delay) i u Idle)) (sym (List·getD-eq-default (b .units) blankUnit (omega arith))) (refl, (refl, (refl, (refl, tt)))))
+
   pub unit-past : (i : ℕ) → b .n ≤ i → isIdle (unitAt b i .state) ≡ true
-  unit-past i l =
-      below-or-not i 64 (λ p. row-past i (b .n) (stateRow (b .delay) i (unitAt b i) (unitAt b i .state)) _ l (each-at (unitRow b) (b .units) i blankUnit (omega arith) (h .s2-units)) .0)
-      (λ p. ap (λ (u : UnitRecord). isIdle (u .state)) (List·getD-eq-default (b .units) blankUnit (omega arith)))
+  unit-past i l = unit-past-row i l .0
+
+  pub unit-past-weight : (i : ℕ) → b .n ≤ i → unitAt b i .weight ≡ 0
+  unit-past-weight i l = unit-past-row i l .1 .0
 
   pub slot-row : (j : ℕ) → j < b .m → Claims (kindRow b (slotAt b j) (slotAt b j .kind))
   slot-row j l = row-in-use j (b .m) (kindRow b (slotAt b j) (slotAt b j .kind)) _ l (each-at (slotRow b) (b .slots) j blankSlot (omega arith) (h .s3-slots))
 
+  -- an entry from M on is blank
+  slot-past-row : (j : ℕ) → b .m ≤ j → Claims (holds (isEmpty (slotAt b j .kind)) ∷ kindRow b (slotAt b j) Empty)
+  slot-past-row j l =
+      below-or-not j 256 (λ p. row-past j (b .m) (kindRow b (slotAt b j) (slotAt b j .kind)) _ l (each-at (slotRow b) (b .slots) j blankSlot (omega arith) (h .s3-slots)))
+      (λ p. subst (λ (y : Slot). Claims (holds (isEmpty (y .kind)) ∷ kindRow b y Empty)) (sym (List·getD-eq-default (b .slots) blankSlot (omega arith))) (refl, (refl, (refl, (refl, tt)))))
+
   pub slot-past : (j : ℕ) → b .m ≤ j → isEmpty (slotAt b j .kind) ≡ true
-  slot-past j l =
-      below-or-not j 256 (λ p. row-past j (b .m) (kindRow b (slotAt b j) (slotAt b j .kind)) _ l (each-at (slotRow b) (b .slots) j blankSlot (omega arith) (h .s3-slots)) .0)
-      (λ p. ap (λ (y : Slot). isEmpty (y .kind)) (List·getD-eq-default (b .slots) blankSlot (omega arith)))
+  slot-past j l = slot-past-row j l .0
+
+  pub slot-past-weight : (j : ℕ) → b .m ≤ j → slotAt b j .weight ≡ 0
+  slot-past-weight j l = slot-past-row j l .1 .1 .1 .0
 
   pub pending-row : (i : ℕ) → i < 64 → pending (b .slots) i ≡ oneIf (unitAt b i .suspended)
   pending-row i l = each-at (pendingRow b) (b .units) i blankUnit (omega arith) (h .s4-pending) .0

@@ -1,0 +1,138 @@
+-- What an accepted step tells: the board was sound, every check of the step's bracket held, and the board after it.
+use mathlib.Core.Path.{_≡_, refl, sym, ap, subst, _∙_}
+use mathlib.Core.Bool.{Bool, true, false, cond}
+use mathlib.Core.List.{List, [], _∷_}
+use Prim.Native.Nat.{ℕ, suc, _≤_}
+use native.Mathlib.Omega.{arith}
+use Rattle.rules.specs.Facts.{Fact, test, Claims, Check, check, judge, holds}
+use Rattle.rules.specs.Words.{parentAt, unitAt, slotAt}
+use Rattle.rules.specs.Sound.{Sound, sound}
+use Rattle.rules.specs.Steps.{actionOf, unitOf, slotOf, placeChecks, grantFits, recordChecks, recordEffect, recordRule, effectBy, effect, applied, soundStep, step}
+use Rattle.rules.proofs.FactLaws.{claimed, asked, judge-passed}
+use Rattle.rules.proofs.SoundLaws.{sound-claims, sound-tested}
+use Rattle.rules.specs.declared.Kind.{Kind}
+use Rattle.rules.specs.declared.Kind.the-variants.{Empty, Work, Return, Request, Supply}
+use Rattle.rules.specs.declared.Action.{Action}
+use Rattle.rules.specs.declared.Action.the-variants.{Unknown, Start, Send, Request as RequestStep, Deliver, Rest, Tick, Release}
+use Rattle.rules.specs.declared.Effect.{Effect}
+use Rattle.rules.specs.declared.Effect.the-variants.{Refused}
+use Rattle.rules.specs.declared.UnitRecord.{UnitRecord}
+use Rattle.rules.specs.declared.Slot.{Slot}
+use Rattle.rules.specs.declared.Board.{Board}
+use Rattle.rules.specs.declared.StepRecord.{StepRecord}
+use Rattle.rules.specs.declared.Outcome.{Outcome}
+
+-- ---- a judgement either passed every check or is a refusal by a number above 0
+abbrev pub Numbered : List Check → Type 0
+Numbered [] = Unit {0}
+Numbered (check f k ∷ cs) = (1 ≤ k) × Numbered cs
+
+pub data Judged {A : Type 0} (refused : ℕ → A) (cs : List Check) (result : A) : Type 0 where
+  passed : Claims (asked cs) → Judged refused cs result
+  failed : (k : ℕ) → 1 ≤ k → judge refused cs result ≡ refused k → Judged refused cs result
+
+pub judged : {A : Type 0} (refused : ℕ → A) (cs : List Check) (result : A) → Numbered cs → Judged refused cs result
+judged refused [] result n = passed tt
+judged {A} refused (check f k ∷ cs) result n = by-test (test f) refl (judged refused cs result (n .1))
+  where
+    by-rest : test f ≡ true → Judged refused cs result → Judged refused (check f k ∷ cs) result
+    by-rest e (passed c) = passed (claimed f e, c)
+    by-rest e (failed j p q) = failed j p (subst (λ (t : Bool). cond t (judge refused cs result) (refused k) ≡ refused j) (sym e) q)
+    by-test : (t : Bool) → test f ≡ t → Judged refused cs result → Judged refused (check f k ∷ cs) result
+    by-test true e j = by-rest e j
+    by-test false e j = failed k (n .0) (ap (λ (t : Bool). cond t (judge refused cs result) (refused k)) e)
+
+place-numbered : (n m : ℕ) (r : StepRecord) (a : Action) → Numbered (placeChecks n m r a)
+place-numbered n m r Unknown = tt
+place-numbered n m r Start = omega arith
+place-numbered n m r Send = omega arith
+place-numbered n m r RequestStep = omega arith
+place-numbered n m r Deliver = omega arith
+place-numbered n m r Rest = omega arith
+place-numbered n m r Tick = omega arith
+place-numbered n m r Release = omega arith
+
+grant-numbered : (debt : ℕ) (k : Kind) → Numbered (grantFits debt k)
+grant-numbered debt Empty = tt
+grant-numbered debt Work = tt
+grant-numbered debt Return = tt
+grant-numbered debt Request = omega arith
+grant-numbered debt Supply = tt
+
+record-numbered : (debt : ℕ) (x : UnitRecord) (y : Slot) (a : Action) → Numbered (recordChecks debt x y a)
+record-numbered debt x y Unknown = tt
+record-numbered debt x y Start = omega arith
+record-numbered debt x y Send = omega arith
+record-numbered debt x y RequestStep = omega arith
+record-numbered debt x y Deliver = (omega arith, grant-numbered debt (y .kind))
+record-numbered debt x y Rest = omega arith
+record-numbered debt x y Tick = omega arith
+record-numbered debt x y Release = omega arith
+
+-- ---- what an accepted step tells, by its action
+pub record AcceptedAs (b : Board) (r : StepRecord) (a : Action) : Type 0 where
+  pub named : actionOf (r .kind) ≡ a
+  pub places : Claims (asked (placeChecks (b .n) (b .m) r a))
+  pub records : Claims (asked (recordChecks (b .debt) (unitAt b (unitOf b r a)) (slotAt b (slotOf r a)) a))
+  pub gives : step b r ≡ applied b (unitOf b r a) (slotOf r a) (recordEffect (b .debt) (b .delay) r (unitAt b (unitOf b r a)) (parentAt b (unitOf b r a)) (slotAt b (slotOf r a)) a)
+
+-- a step on a sound board is the step without the test; on another board it is 30
+pub step-sound : (b : Board) (r : StepRecord) → Sound b → step b r ≡ soundStep b r
+unfolding step
+step-sound b r h = rw (sound-tested b h)
+
+pub accepted-sound : (b : Board) (r : StepRecord) → step b r .answer ≡ 0 → Sound b
+unfolding step
+accepted-sound b r e = by-test (sound b) refl e
+  where
+    by-test : (t : Bool) → sound b ≡ t → cond t (soundStep b r) (record { answer = 30; board = b }) .answer ≡ 0 → Sound b
+    by-test true s q = sound-claims b s
+    by-test false s q = absurd (omega (arith, q))
+
+module _ (b : Board) (r : StepRecord) (h : Sound b) (a : Action) (named : actionOf (r .kind) ≡ a) where
+  abbrev u : ℕ
+  u = unitOf b r a
+
+  abbrev s : ℕ
+  s = slotOf r a
+
+  abbrev done : Effect
+  done = recordEffect (b .debt) (b .delay) r (unitAt b u) (parentAt b u) (slotAt b s) a
+
+  abbrev rule : Effect
+  rule = recordRule (b .debt) (b .delay) r (unitAt b u) (parentAt b u) (slotAt b s) a
+
+  refused-answer : (e : Effect) (k : ℕ) → 1 ≤ k → e ≡ Refused k → applied b u s e .answer ≡ 0 → ⊥
+  unfolding applied
+  refused-answer e k p q z = omega (arith, rw q at z)
+
+  by-action : step b r ≡ applied b u s (effectBy b r a)
+  unfolding soundStep effect
+  by-action = step-sound b r h ∙ ap (λ (c : Action). applied b (unitOf b r c) (slotOf r c) (effectBy b r c)) named
+
+  pub accepted-as : step b r .answer ≡ 0 → AcceptedAs b r a
+  unfolding recordRule
+  accepted-as e = by-places (judged Refused (placeChecks (b .n) (b .m) r a) rule (place-numbered (b .n) (b .m) r a))
+    where
+      zero-answer : applied b u s (effectBy b r a) .answer ≡ 0
+      zero-answer = sym (ap (λ (o : Outcome). o .answer) by-action) ∙ e
+      by-records : Claims (asked (placeChecks (b .n) (b .m) r a)) → Judged Refused (recordChecks (b .debt) (unitAt b u) (slotAt b s) a) done → AcceptedAs b r a
+      by-records p (passed q) = record {
+        named = named;
+        places = p;
+        records = q;
+        gives = by-action ∙ ap (λ (x : Effect). applied b u s x) (judge-passed Refused (placeChecks (b .n) (b .m) r a) rule p ∙ judge-passed Refused (recordChecks (b .debt) (unitAt b u) (slotAt b s) a) done q)
+      }
+      by-records p (failed k l q) = absurd (refused-answer (effectBy b r a) k l (judge-passed Refused (placeChecks (b .n) (b .m) r a) rule p ∙ q) zero-answer)
+      by-places : Judged Refused (placeChecks (b .n) (b .m) r a) rule → AcceptedAs b r a
+      by-places (passed p) = by-records p (judged Refused (recordChecks (b .debt) (unitAt b u) (slotAt b s) a) done (record-numbered (b .debt) (unitAt b u) (slotAt b s) a))
+      by-places (failed k l q) = absurd (refused-answer (effectBy b r a) k l q zero-answer)
+
+-- the other way: where the whole bracket holds, the step does what its effect says
+pub step-does : (b : Board) (r : StepRecord) → Sound b → (a : Action) → actionOf (r .kind) ≡ a
+    → Claims (asked (placeChecks (b .n) (b .m) r a)) → Claims (asked (recordChecks (b .debt) (unitAt b (unitOf b r a)) (slotAt b (slotOf r a)) a))
+    → step b r ≡ applied b (unitOf b r a) (slotOf r a) (recordEffect (b .debt) (b .delay) r (unitAt b (unitOf b r a)) (parentAt b (unitOf b r a)) (slotAt b (slotOf r a)) a)
+unfolding recordRule
+step-does b r h a named p q =
+    by-action b r h a named ∙ ap (λ (x : Effect). applied b (unitOf b r a) (slotOf r a) x)
+    (judge-passed Refused (placeChecks (b .n) (b .m) r a) _ p ∙ judge-passed Refused (recordChecks (b .debt) (unitAt b (unitOf b r a)) (slotAt b (slotOf r a)) a) _ q)

@@ -1,0 +1,132 @@
+-- Drains from a quiet board: each has at most so many steps as the bound says, and until finished some step makes it one longer.
+use mathlib.Core.Path.{_≡_, refl, sym, ap, subst, _∙_}
+use mathlib.Core.Bool.{Bool, true, false, cond}
+use mathlib.Core.List.{List, [], _∷_}
+use Prim.Native.Nat.{ℕ, zero, suc, _-_, _≤_, _<_}
+use native.Mathlib.Nat.{le-trans}
+use native.Mathlib.Omega.{arith}
+use lib.ListN.{length}
+use lib.Dec.{eqb}
+use Rattle.rules.specs.Facts.{Claims, check, fails}
+use Rattle.rules.specs.Words.{isEmpty, isWaiting, unitAt, slotAt, blankUnit, blankSlot}
+use Rattle.rules.specs.Sound.{unitsWeight, slotsWeight, Sound}
+use Rattle.rules.specs.Steps.{grantFits, returned, returnEffect, deliverEffect, recordChecks, applied, step}
+use Rattle.rules.specs.Lists.{after}
+use Rattle.rules.specs.Drains.{verdict, Quiet, Drain, drainBound}
+use Rattle.rules.specs.Guarantee.{Longer, Drains}
+use Rattle.rules.proofs.FactLaws.{asked}
+use Rattle.rules.proofs.SumLaws.{PartAbove, sum-above}
+use Rattle.rules.proofs.SoundLaws.{below-or-not, unit-past-weight, slot-past-weight}
+use Rattle.rules.proofs.Accepted.{step-does}
+use Rattle.rules.proofs.StepFits.{empty-is, unit-row-as, slot-row-as}
+use Rattle.rules.proofs.ListLaws.{step-keeps-sound, list-keeps-sound}
+use Rattle.rules.proofs.FinishedLaws.{debt-finished}
+use Rattle.rules.proofs.Potential.{potential, Lower, not-active, not-work, not-request, not-supply, drain-step-lowers, potential-bound}
+use Rattle.rules.specs.declared.State.{State}
+use Rattle.rules.specs.declared.State.the-variants.{Idle, Active, Waiting}
+use Rattle.rules.specs.declared.Kind.{Kind}
+use Rattle.rules.specs.declared.Kind.the-variants.{Empty, Work, Return, Request, Supply}
+use Rattle.rules.specs.declared.Action.the-variants.{Deliver, Tick, Release}
+use Rattle.rules.specs.declared.Effect.the-variants.{OnSlot, OnBoth}
+use Rattle.rules.specs.declared.UnitRecord.{UnitRecord}
+use Rattle.rules.specs.declared.Slot.{Slot}
+use Rattle.rules.specs.declared.Board.{Board}
+use Rattle.rules.specs.declared.StepRecord.{StepRecord}
+use Rattle.rules.specs.declared.Outcome.{Outcome}
+use Rattle.rules.specs.declared.Verdict.the-variants.{Finished}
+
+-- ---- a drain is at most as long as the potential, and leaves the board quiet
+drain-length : (b : Board) (rs : List StepRecord) → Sound b → Quiet b → Drain b rs → length rs ≤ potential b
+unfolding Drain
+drain-length b [] h q z = omega arith
+drain-length b (r ∷ rs) h q z =
+    let lower = drain-step-lowers b h q r (z .0) in
+    omega (arith, drain-length (step b r .board) rs (step-keeps-sound b r h) (lower .quiet) (z .1), lower .less)
+
+drain-quiet : (b : Board) (rs : List StepRecord) → Sound b → Quiet b → Drain b rs → Quiet (after b rs)
+unfolding Drain after
+drain-quiet b [] h q z = q
+drain-quiet b (r ∷ rs) h q z = drain-quiet (step b r .board) rs (step-keeps-sound b r h) (drain-step-lowers b h q r (z .0) .quiet) (z .1)
+
+-- ---- on a quiet board with something out, some step is accepted
+-- a return that is delivered changes a slot, or a slot and a unit
+return-answer : (b : Board) (u s debt d : ℕ) (x : UnitRecord) (y : Slot) → applied b u s (returnEffect debt d x y) .answer ≡ 0
+unfolding applied
+return-answer b u s debt d x y = by-receiver (eqb (y .to) 0)
+  where
+    by-receiver : (t : Bool) → applied b u s (cond t (OnSlot blankSlot (debt - y .weight)) (OnBoth (returned d x (y .weight) (x .state)) blankSlot debt)) .answer ≡ 0
+    by-receiver true = refl
+    by-receiver false = refl
+
+module _ (b : Board) (h : Sound b) (q : Quiet b) where
+  abbrev delivery : ℕ → StepRecord
+  delivery s = record { kind = 4; unit = 0; other = 0; slot = s }
+
+  deliver-longer : (s : ℕ) → s < b .m → slotAt b s .kind ≡ Return → Longer b
+  deliver-longer s l e = record { next = delivery s; fits = omega (arith, h .s1-sizes, l); drains = (ap (λ (o : Outcome). o .answer) done ∙ return-answer b (slotAt b s .to) s (b .debt) (b .delay) (unitAt b (slotAt b s .to)) (slotAt b s), refl) }
+    where
+      checks : Claims (asked (recordChecks (b .debt) (unitAt b (slotAt b s .to)) (slotAt b s) Deliver))
+      checks = subst (λ (k : Kind). Claims (asked (check (fails (isEmpty k)) 35 ∷ grantFits (b .debt) k))) (sym e) (refl, tt)
+      done : step b (delivery s) ≡ applied b (slotAt b s .to) s (deliverEffect (b .debt) (b .delay) (unitAt b (slotAt b s .to)) (slotAt b s) Return)
+      done = subst (λ (k : Kind). step b (delivery s) ≡ applied b (slotAt b s .to) s (deliverEffect (b .debt) (b .delay) (unitAt b (slotAt b s .to)) (slotAt b s) k)) e (step-does b (delivery s) h Deliver refl (l, tt) checks)
+
+  -- a filled slot is a return; with slot 0 empty a waiting unit can tick or be released
+  slot-longer : (s : ℕ) → s < b .m → (isEmpty (slotAt b s .kind) ≡ true → Longer b) → Longer b
+  slot-longer s l f = by-kind (slotAt b s .kind) refl
+    where
+      by-kind : (k : Kind) → slotAt b s .kind ≡ k → Longer b
+      by-kind Empty e = f (ap isEmpty e)
+      by-kind Work e = absurd (not-work b h q s e)
+      by-kind Return e = deliver-longer s l e
+      by-kind Request e = absurd (not-request b h q s l e)
+      by-kind Supply e = absurd (not-supply b h q s l e)
+
+  waiting-longer : (i : ℕ) → i < b .n → unitAt b i .state ≡ Waiting → isEmpty (slotAt b 0 .kind) ≡ true → Longer b
+  unfolding applied
+  waiting-longer i l e free = by-countdown (unitAt b i .countdown) refl
+    where
+      waits : isWaiting (unitAt b i .state) ≡ true
+      waits = ap isWaiting e
+      by-countdown : (k : ℕ) → unitAt b i .countdown ≡ k → Longer b
+      by-countdown zero z = record {
+        next = record { kind = 7; unit = i; other = 0; slot = 0 };
+        fits = omega (arith, h .s1-sizes, l);
+        drains = (ap (λ (o : Outcome). o .answer) (step-does b (record { kind = 7; unit = i; other = 0; slot = 0 }) h Release refl (l, (omega (arith, h .s1-sizes), tt)) (waits, (z, (free, tt)))), refl)
+      }
+      by-countdown (suc k) z = record {
+        next = record { kind = 6; unit = i; other = 0; slot = 0 };
+        fits = omega (arith, h .s1-sizes, l);
+        drains = (ap (λ (o : Outcome). o .answer) (step-does b (record { kind = 6; unit = i; other = 0; slot = 0 }) h Tick refl (l, tt) (waits, (omega (arith, z), tt))), refl)
+      }
+
+  -- a unit with weight is waiting, since none is active
+  unit-longer : (i : ℕ) → 1 ≤ unitAt b i .weight → isEmpty (slotAt b 0 .kind) ≡ true → Longer b
+  unit-longer i w free = below-or-not i (b .n) (λ l. by-state l (unitAt b i .state) refl) (λ l. absurd (omega (arith, w, unit-past-weight b h i l)))
+    where
+      by-state : i < b .n → (k : State) → unitAt b i .state ≡ k → Longer b
+      by-state l Idle e = absurd (omega (arith, w, unit-row-as b h i Idle l e))
+      by-state l Active e = absurd (not-active b h q i e)
+      by-state l Waiting e = waiting-longer i l e free
+
+  some-longer : 1 ≤ b .debt → Longer b
+  unfolding unitsWeight slotsWeight
+  some-longer d = slot-longer 0 (omega (arith, h .s1-sizes)) (λ free. by-units free (unitsWeight (b .units)) refl)
+    where
+      by-units : isEmpty (slotAt b 0 .kind) ≡ true → (k : ℕ) → unitsWeight (b .units) ≡ k → Longer b
+      by-units free zero e =
+          let part : PartAbove (λ j y. y .weight) (b .slots) blankSlot = sum-above (λ j y. y .weight) (b .slots) blankSlot (omega (arith, d, e, h .s5-s6-debt)) in
+          below-or-not (part .place) (b .m)
+          (λ l. slot-longer (part .place) l (λ z. absurd (omega (arith, part .above, slot-row-as b h (part .place) Empty l (empty-is _ z)))))
+          (λ l. absurd (omega (arith, part .above, slot-past-weight b h (part .place) l)))
+      by-units free (suc k) e =
+          let part : PartAbove (λ i u. u .weight) (b .units) blankUnit = sum-above (λ i u. u .weight) (b .units) blankUnit (omega (arith, e)) in
+          unit-longer (part .place) (part .above) free
+
+pub quiet-drains : (b : Board) → Sound b → Quiet b → Drains b
+quiet-drains b h q = record {
+  bounded = λ rs z. le-trans (drain-length b rs h q z) (potential-bound b h);
+  unstuck = λ rs z n. some-longer (after b rs) (list-keeps-sound b rs h) (drain-quiet b rs h q z) (above-zero _ (λ e. n (debt-finished (after b rs) (list-keeps-sound b rs h) e)))
+}
+  where
+    above-zero : (k : ℕ) → (k ≡ 0 → ⊥) → 1 ≤ k
+    above-zero k n = omega (arith, n)
