@@ -2,9 +2,9 @@
 use mathlib.Core.Path.{_≡_, refl, sym, ap, subst, _∙_}
 use mathlib.Core.Bool.{Bool, true, false, cond}
 use mathlib.Core.List.{List, [], _∷_}
-use Prim.Native.Nat.{ℕ, suc, _≤_}
+use Prim.Native.Nat.{ℕ, _≤_}
 use native.Mathlib.Omega.{arith}
-use Rattle.rules.specs.Facts.{Fact, test, Claims, Check, check, judge, holds}
+use Rattle.rules.specs.Facts.{test, Claims, Check, check, judge}
 use Rattle.rules.specs.Words.{parentAt, unitAt, slotAt}
 use Rattle.rules.specs.Sound.{Sound, sound}
 use Rattle.rules.specs.Steps.{actionOf, unitOf, slotOf, placeChecks, grantFits, recordChecks, recordEffect, recordRule, effectBy, effect, applied, soundStep, step}
@@ -38,6 +38,7 @@ judged {A} refused (check f k ∷ cs) result n = by-test (test f) refl (judged r
     by-rest : test f ≡ true → Judged refused cs result → Judged refused (check f k ∷ cs) result
     by-rest e (passed c) = passed (claimed f e, c)
     by-rest e (failed j p q) = failed j p (subst (λ (t : Bool). cond t (judge refused cs result) (refused k) ≡ refused j) (sym e) q)
+
     by-test : (t : Bool) → test f ≡ t → Judged refused cs result → Judged refused (check f k ∷ cs) result
     by-test true e j = by-rest e j
     by-test false e j = failed k (n .0) (ap (λ (t : Bool). cond t (judge refused cs result) (refused k)) e)
@@ -116,14 +117,16 @@ module _ (b : Board) (r : StepRecord) (h : Sound b) (a : Action) (named : action
     where
       zero-answer : applied b u s (effectBy b r a) .answer ≡ 0
       zero-answer = sym (ap (λ (o : Outcome). o .answer) by-action) ∙ e
+
       by-records : Claims (asked (placeChecks (b .n) (b .m) r a)) → Judged Refused (recordChecks (b .debt) (unitAt b u) (slotAt b s) a) done → AcceptedAs b r a
       by-records p (passed q) = record {
         named = named;
         places = p;
         records = q;
-        gives = by-action ∙ ap (λ (x : Effect). applied b u s x) (judge-passed Refused (placeChecks (b .n) (b .m) r a) rule p ∙ judge-passed Refused (recordChecks (b .debt) (unitAt b u) (slotAt b s) a) done q)
+        gives = by-action ∙ ap (λ (x : Effect). applied b u s x) (judge-passed Refused (placeChecks (b .n) (b .m) r a) rule p ∙ judge-passed Refused (recordChecks (b .debt) (unitAt b u) (slotAt b s) a) done q);
       }
       by-records p (failed k l q) = absurd (refused-answer (effectBy b r a) k l (judge-passed Refused (placeChecks (b .n) (b .m) r a) rule p ∙ q) zero-answer)
+
       by-places : Judged Refused (placeChecks (b .n) (b .m) r a) rule → AcceptedAs b r a
       by-places (passed p) = by-records p (judged Refused (recordChecks (b .debt) (unitAt b u) (slotAt b s) a) done (record-numbered (b .debt) (unitAt b u) (slotAt b s) a))
       by-places (failed k l q) = absurd (refused-answer (effectBy b r a) k l q zero-answer)

@@ -1,8 +1,8 @@
 -- One law for every step: a change of one unit, one slot and the debt that fits keeps a sound board sound.
-use mathlib.Core.Path.{_≡_, refl, sym, ap, subst}
+use mathlib.Core.Path.{_≡_, refl, sym, subst}
 use mathlib.Core.Bool.{Bool, true, false, cond}
 use lib.Dec.{ltb}
-use Prim.Native.Nat.{ℕ, suc, _+_, _≤_, _<_}
+use Prim.Native.Nat.{ℕ, _+_, _≤_, _<_}
 use native.Mathlib.Omega.{arith}
 use native.Mathlib.Decide.{ℕ-discrete}
 use lib.ListN.{length, getD, set, length-set}
@@ -75,6 +75,7 @@ module _ (b : Board) (h : Sound b) (u s : ℕ) (x : UnitRecord) (y : Slot) (debt
     where
       short : i < 64
       short = omega (arith, length-set (b .units) u x, l, h .s1-sizes)
+
       by-place : Dec (i ≡ u) → pending (set (b .slots) s y) i ≡ oneIf (getD (set (b .units) u x) i blankUnit .suspended)
       by-place (yes e) =
           subst (λ (k : ℕ). pending (set (b .slots) s y) k ≡ oneIf (getD (set (b .units) u x) k blankUnit .suspended)) (sym e)
@@ -96,7 +97,7 @@ module _ (b : Board) (h : Sound b) (u s : ℕ) (x : UnitRecord) (y : Slot) (debt
     s2-units = new-units;
     s3-slots = new-slots-there;
     s4-pending = each-of (pendingRow new) (set (b .units) u x) blankUnit (λ i l. (new-pending i l, tt));
-    s5-s6-debt = omega (arith, units-sum, slots-sum, f .weight-kept, f .debt-fits)
+    s5-s6-debt = omega (arith, units-sum, slots-sum, f .weight-kept, f .debt-fits);
   }
 
 -- ---- a change of a unit alone, of a slot alone
@@ -110,7 +111,7 @@ unit-change b h u x debt l c e w q = record {
   pending-here = rw e;
   pending-else = λ i n. refl;
   weight-kept = omega arith;
-  debt-fits = q
+  debt-fits = q;
 }
 
 pub slot-change : (b : Board) → Sound b → (s : ℕ) (y : Slot) (debt : ℕ) → s < b .m → Claims (kindRow b y (y .kind)) → ((i : ℕ) → pendingIn i y (y .kind) ≡ pendingIn i (slotAt b s) (slotAt b s .kind))
@@ -123,7 +124,7 @@ slot-change b h s y debt l c e w q = record {
   pending-here = rw (e 0);
   pending-else = λ i n. e i;
   weight-kept = omega arith;
-  debt-fits = q
+  debt-fits = q;
 }
 
 -- ---- an effect that fits

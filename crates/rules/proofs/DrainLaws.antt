@@ -12,7 +12,7 @@ use Rattle.rules.specs.Words.{isEmpty, isWaiting, unitAt, slotAt, blankU
 use Rattle.rules.specs.Sound.{unitsWeight, slotsWeight, Sound}
 use Rattle.rules.specs.Steps.{grantFits, returned, returnEffect, deliverEffect, recordChecks, applied, step}
 use Rattle.rules.specs.Lists.{after}
-use Rattle.rules.specs.Drains.{verdict, Quiet, Drain, drainBound}
+use Rattle.rules.specs.Drains.{Quiet, Drain}
 use Rattle.rules.specs.Guarantee.{Longer, Drains}
 use Rattle.rules.proofs.FactLaws.{asked}
 use Rattle.rules.proofs.SumLaws.{PartAbove, sum-above}
@@ -21,7 +21,7 @@ use Rattle.rules.proofs.Accepted.{step-does}
 use Rattle.rules.proofs.StepFits.{empty-is, unit-row-as, slot-row-as}
 use Rattle.rules.proofs.ListLaws.{step-keeps-sound, list-keeps-sound}
 use Rattle.rules.proofs.FinishedLaws.{debt-finished}
-use Rattle.rules.proofs.Potential.{potential, Lower, not-active, not-work, not-request, not-supply, drain-step-lowers, potential-bound}
+use Rattle.rules.proofs.Potential.{potential, not-active, not-work, not-request, not-supply, drain-step-lowers, potential-bound}
 use Rattle.rules.specs.declared.State.{State}
 use Rattle.rules.specs.declared.State.the-variants.{Idle, Active, Waiting}
 use Rattle.rules.specs.declared.Kind.{Kind}
@@ -33,7 +33,6 @@ use Rattle.rules.specs.declared.Slot.{Slot}
 use Rattle.rules.specs.declared.Board.{Board}
 use Rattle.rules.specs.declared.StepRecord.{StepRecord}
 use Rattle.rules.specs.declared.Outcome.{Outcome}
-use Rattle.rules.specs.declared.Verdict.the-variants.{Finished}
 
 -- ---- a drain is at most as long as the potential, and leaves the board quiet
 drain-length : (b : Board) (rs : List StepRecord) → Sound b → Quiet b → Drain b rs → length rs ≤ potential b
@@ -67,6 +66,7 @@ module _ (b : Board) (h : Sound b) (q : Quiet b) where
     where
       checks : Claims (asked (recordChecks (b .debt) (unitAt b (slotAt b s .to)) (slotAt b s) Deliver))
       checks = subst (λ (k : Kind). Claims (asked (check (fails (isEmpty k)) 35 ∷ grantFits (b .debt) k))) (sym e) (refl, tt)
+
       done : step b (delivery s) ≡ applied b (slotAt b s .to) s (deliverEffect (b .debt) (b .delay) (unitAt b (slotAt b s .to)) (slotAt b s) Return)
       done = subst (λ (k : Kind). step b (delivery s) ≡ applied b (slotAt b s .to) s (deliverEffect (b .debt) (b .delay) (unitAt b (slotAt b s .to)) (slotAt b s) k)) e (step-does b (delivery s) h Deliver refl (l, tt) checks)
 
@@ -87,16 +87,17 @@ module _ (b : Board) (h : Sound b) (q : Quiet b) where
     where
       waits : isWaiting (unitAt b i .state) ≡ true
       waits = ap isWaiting e
+
       by-countdown : (k : ℕ) → unitAt b i .countdown ≡ k → Longer b
       by-countdown zero z = record {
         next = record { kind = 7; unit = i; other = 0; slot = 0 };
         fits = omega (arith, h .s1-sizes, l);
-        drains = (ap (λ (o : Outcome). o .answer) (step-does b (record { kind = 7; unit = i; other = 0; slot = 0 }) h Release refl (l, (omega (arith, h .s1-sizes), tt)) (waits, (z, (free, tt)))), refl)
+        drains = (ap (λ (o : Outcome). o .answer) (step-does b (record { kind = 7; unit = i; other = 0; slot = 0 }) h Release refl (l, (omega (arith, h .s1-sizes), tt)) (waits, (z, (free, tt)))), refl);
       }
       by-countdown (suc k) z = record {
         next = record { kind = 6; unit = i; other = 0; slot = 0 };
         fits = omega (arith, h .s1-sizes, l);
-        drains = (ap (λ (o : Outcome). o .answer) (step-does b (record { kind = 6; unit = i; other = 0; slot = 0 }) h Tick refl (l, tt) (waits, (omega (arith, z), tt))), refl)
+        drains = (ap (λ (o : Outcome). o .answer) (step-does b (record { kind = 6; unit = i; other = 0; slot = 0 }) h Tick refl (l, tt) (waits, (omega (arith, z), tt))), refl);
       }
 
   -- a unit with weight is waiting, since none is active
@@ -125,7 +126,7 @@ module _ (b : Board) (h : Sound b) (q : Quiet b) where
 pub quiet-drains : (b : Board) → Sound b → Quiet b → Drains b
 quiet-drains b h q = record {
   bounded = λ rs z. le-trans (drain-length b rs h q z) (potential-bound b h);
-  unstuck = λ rs z n. some-longer (after b rs) (list-keeps-sound b rs h) (drain-quiet b rs h q z) (above-zero _ (λ e. n (debt-finished (after b rs) (list-keeps-sound b rs h) e)))
+  unstuck = λ rs z n. some-longer (after b rs) (list-keeps-sound b rs h) (drain-quiet b rs h q z) (above-zero _ (λ e. n (debt-finished (after b rs) (list-keeps-sound b rs h) e)));
 }
   where
     above-zero : (k : ℕ) → (k ≡ 0 → ⊥) → 1 ≤ k

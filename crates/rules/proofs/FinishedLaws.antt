@@ -1,14 +1,14 @@
 -- Finished is told exactly where every unit is idle and every slot empty.
-use mathlib.Core.Path.{_≡_, refl, sym, ap, subst, _∙_}
+use mathlib.Core.Path.{_≡_, refl, sym, ap, _∙_}
 use mathlib.Core.Bool.{Bool, true, false, cond}
 use mathlib.Core.Logic.{_↔_}
-use Prim.Native.Nat.{ℕ, _+_, _≤_, _<_}
+use Prim.Native.Nat.{ℕ, _<_}
 use native.Mathlib.Omega.{arith}
 use lib.Dec.{eqb}
 use borrow.Author.Tests.{eqb-true, eq-eqb}
 use Rattle.rules.specs.Facts.{oneIf}
-use Rattle.rules.specs.Words.{isIdle, isEmpty, unitAt, slotAt, blankUnit, blankSlot}
-use Rattle.rules.specs.Sound.{unitsWeight, slotsWeight, pendingIn, Sound, sound}
+use Rattle.rules.specs.Words.{isIdle, unitAt, slotAt, blankUnit, blankSlot}
+use Rattle.rules.specs.Sound.{unitsWeight, slotsWeight, Sound}
 use Rattle.rules.specs.Drains.{verdict, Complete}
 use Rattle.rules.proofs.SumLaws.{sum-none}
 use Rattle.rules.proofs.SoundLaws.{sound-tested, below-or-not, unit-past, unit-past-weight, slot-past, slot-past-weight, unit-weight, slot-weight}
@@ -19,7 +19,7 @@ use Rattle.rules.specs.declared.Kind.{Kind}
 use Rattle.rules.specs.declared.Kind.the-variants.{Empty, Work, Return, Request, Supply}
 use Rattle.rules.specs.declared.Board.{Board}
 use Rattle.rules.specs.declared.Verdict.{Verdict}
-use Rattle.rules.specs.declared.Verdict.the-variants.{Working, Finished, Refused}
+use Rattle.rules.specs.declared.Verdict.the-variants.{Working, Finished}
 
 pub idle-is : (k : State) → isIdle k ≡ true → k ≡ Idle
 idle-is Idle e = refl
@@ -51,6 +51,7 @@ module _ (b : Board) (h : Sound b) where
     where
       none : unitAt b i .weight ≡ 0
       none = omega (arith, unit-weight b h i (omega (arith, h .s1-sizes, l)), h .s5-s6-debt, e)
+
       by-state : (k : State) → unitAt b i .state ≡ k → unitAt b i .state ≡ Idle
       by-state Idle q = q
       by-state Active q = absurd (omega (arith, unit-row-as b h i Active l q, none))
@@ -62,6 +63,7 @@ module _ (b : Board) (h : Sound b) where
     where
       none : slotAt b j .weight ≡ 0
       none = omega (arith, slot-weight b h j (omega (arith, h .s1-sizes, l)), h .s5-s6-debt, e)
+
       by-kind : (k : Kind) → slotAt b j .kind ≡ k → slotAt b j .kind ≡ Empty
       by-kind Empty q = q
       by-kind Work q = absurd (omega (arith, slot-row-as b h j Work l q, none))
@@ -76,22 +78,22 @@ module _ (b : Board) (h : Sound b) where
   complete-of : b .debt ≡ 0 → Complete b
   complete-of e = record {
     idle = λ i. below-or-not i (b .n) (idle-in-use e i) (λ l. idle-is (unitAt b i .state) (unit-past b h i l));
-    empty = λ j. below-or-not j (b .m) (empty-in-use e j) (λ l. empty-is (slotAt b j .kind) (slot-past b h j l))
+    empty = λ j. below-or-not j (b .m) (empty-in-use e j) (λ l. empty-is (slotAt b j .kind) (slot-past b h j l));
   }
 
   -- idle units and empty slots have no weight, so nothing is out
   debt-of : Complete b → b .debt ≡ 0
   unfolding unitsWeight slotsWeight
-  debt-of c = omega
-    (
-      arith,
-      sum-none (λ i u. u .weight) (b .units) blankUnit (λ i l. no-unit-weight i (omega (arith, l, h .s1-sizes))),
-      sum-none (λ j y. y .weight) (b .slots) blankSlot (λ j l. no-slot-weight j (omega (arith, l, h .s1-sizes))),
-      h .s5-s6-debt,
-    )
+  debt-of c = omega (
+    arith,
+    sum-none (λ i u. u .weight) (b .units) blankUnit (λ i l. no-unit-weight i (omega (arith, l, h .s1-sizes))),
+    sum-none (λ j y. y .weight) (b .slots) blankSlot (λ j l. no-slot-weight j (omega (arith, l, h .s1-sizes))),
+    h .s5-s6-debt,
+  )
     where
       no-unit-weight : (i : ℕ) → i < 64 → unitAt b i .weight ≡ 0
       no-unit-weight i l = below-or-not i (b .n) (λ p. unit-row-as b h i Idle p (c .idle i) .0) (λ p. unit-past-weight b h i p)
+
       no-slot-weight : (j : ℕ) → j < 256 → slotAt b j .weight ≡ 0
       no-slot-weight j l = below-or-not j (b .m) (λ p. slot-row-as b h j Empty p (c .empty j) .1 .1 .0) (λ p. slot-past-weight b h j p)
 

@@ -1,15 +1,14 @@
 -- The fresh board of an accepted opening is sound, and has nothing out.
 use mathlib.Core.Path.{_≡_, refl, sym, ap, subst, _∙_}
-use mathlib.Core.Bool.{Bool, true, false, cond}
 use mathlib.Core.List.{List, [], _∷_, _++_}
 use Prim.Native.Nat.{ℕ, zero, suc, _+_, _-_, _≤_, _<_}
 use native.Mathlib.Nat.{le-of-suc-le-suc}
 use native.Mathlib.Omega.{arith}
 use lib.ListN.{length, getD, replicate, length-append, length-replicate, getD-replicate, List·getD-append}
 use lib.Seq.{getD-append-add}
-use Rattle.rules.specs.Facts.{Claims, Each, each, below, judge}
+use Rattle.rules.specs.Facts.{Claims, Each, below}
 use Rattle.rules.specs.Words.{blankUnit, blankSlot}
-use Rattle.rules.specs.Sound.{parentRow, lowerParent, unitRow, slotRow, pendingRow, pendingIn, pending, unitsWeight, slotsWeight, Sound}
+use Rattle.rules.specs.Sound.{parentRow, unitRow, slotRow, pendingRow, pendingIn, pending, unitsWeight, slotsWeight, Sound}
 use Rattle.rules.specs.Opening.{lowerParents, openingChecks, fresh, blankBoard, opening}
 use Rattle.rules.proofs.FactLaws.{asked, each-claims, each-at, each-of, judge-passed}
 use Rattle.rules.proofs.SumLaws.{sum-none}
@@ -56,10 +55,12 @@ module _ (m d : ℕ) (ps : List ℕ) (c : Claims (asked (openingChecks m d ps)))
     where
       used : (k : ℕ) → k < length ps → suc (getD ps k 0) ≤ suc k
       used k l = each-at (λ i p. below p (suc i) ∷ []) ps k 0 l (each-claims (λ i p. below p (suc i) ∷ []) ps (c .1 .1 .1 .1 .0)) .0
+
       past : (k : ℕ) → length ps ≤ k → k < 63 → getD (ps ++ replicate (63 - length ps) 0) k 0 ≡ 0
       past k l q =
           let e : length ps + (k - length ps) ≡ k = omega arith in
           ap (λ (j : ℕ). getD (ps ++ replicate (63 - length ps) 0) j 0) (sym e) ∙ getD-append-add ps (replicate (63 - length ps) 0) (k - length ps) 0 ∙ getD-replicate (63 - length ps) (k - length ps) 0 0 (omega arith)
+
       at : (i : ℕ) → i < length (0 ∷ ps ++ replicate (63 - length ps) 0) → Claims (parentRow b i (getD (0 ∷ ps ++ replicate (63 - length ps) 0) i 0))
       at zero l = row-of 0 (suc (length ps)) _ _ (λ p. (refl, tt)) (λ p. (refl, tt))
       at (suc k) l =
@@ -72,16 +73,15 @@ module _ (m d : ℕ) (ps : List ℕ) (c : Claims (asked (openingChecks m d ps)))
     s1-sizes = omega (arith, rest-length, length-replicate 64 blankUnit, length-replicate 256 blankSlot, c);
     s1-parents = parents-rows;
     s2-units = each-of (unitRow b) (b .units) blankUnit
-      (λ i l. blank-at 64 i blankUnit (λ (u : UnitRecord). Claims (unitRow b i u)) l (row-of i (b .n) _ _ (λ p. (refl, (refl, (refl, tt)))) (λ p. (refl, (refl, (refl, (refl, tt)))))));
+        (λ i l. blank-at 64 i blankUnit (λ (u : UnitRecord). Claims (unitRow b i u)) l (row-of i (b .n) _ _ (λ p. (refl, (refl, (refl, tt)))) (λ p. (refl, (refl, (refl, (refl, tt)))))));
     s3-slots = each-of (slotRow b) (b .slots) blankSlot
-      (λ j l. blank-at 256 j blankSlot (λ (y : Slot). Claims (slotRow b j y)) l (row-of j (b .m) _ _ (λ p. (refl, (refl, (refl, tt)))) (λ p. (refl, (refl, (refl, (refl, tt)))))));
+        (λ j l. blank-at 256 j blankSlot (λ (y : Slot). Claims (slotRow b j y)) l (row-of j (b .m) _ _ (λ p. (refl, (refl, (refl, tt)))) (λ p. (refl, (refl, (refl, (refl, tt)))))));
     s4-pending = each-of (pendingRow b) (b .units) blankUnit
-      (λ i l. blank-at 64 i blankUnit (λ (u : UnitRecord). Claims (pendingRow b i u)) l
-      (sum-none (λ j y. pendingIn i y (y .kind)) (b .slots) blankSlot (λ j q. blank-at 256 j blankSlot (λ (y : Slot). pendingIn i y (y .kind) ≡ 0) q refl), tt));
-    s5-s6-debt = omega
-      (
-        arith,
-        sum-none (λ i u. u .weight) (b .units) blankUnit (λ i l. blank-at 64 i blankUnit (λ (u : UnitRecord). u .weight ≡ 0) l refl),
-        sum-none (λ j y. y .weight) (b .slots) blankSlot (λ j l. blank-at 256 j blankSlot (λ (y : Slot). y .weight ≡ 0) l refl),
-      )
+        (λ i l. blank-at 64 i blankUnit (λ (u : UnitRecord). Claims (pendingRow b i u)) l
+        (sum-none (λ j y. pendingIn i y (y .kind)) (b .slots) blankSlot (λ j q. blank-at 256 j blankSlot (λ (y : Slot). pendingIn i y (y .kind) ≡ 0) q refl), tt));
+    s5-s6-debt = omega (
+      arith,
+      sum-none (λ i u. u .weight) (b .units) blankUnit (λ i l. blank-at 64 i blankUnit (λ (u : UnitRecord). u .weight ≡ 0) l refl),
+      sum-none (λ j y. y .weight) (b .slots) blankSlot (λ j l. blank-at 256 j blankSlot (λ (y : Slot). y .weight ≡ 0) l refl),
+    );
   }

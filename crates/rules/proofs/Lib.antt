@@ -11,3 +11,4 @@ pub mod DepthLaws
 pub mod Potential
 pub mod DrainLaws
 pub mod Theorem
+pub mod CaseRows

@@ -3,17 +3,15 @@ use mathlib.Core.Path.{_≡_, refl, sym, ap, subst, _∙_}
 use mathlib.Core.Bool.{Bool, true, false, cond, _&&_}
 use mathlib.Core.List.{List, [], _∷_}
 use Prim.Native.Nat.{ℕ, _+_, _-_, _*_, _≤_}
-use native.Mathlib.Nat.{mul-add}
 use native.Mathlib.Omega.{arith}
 use lib.Dec.{eqb}
 use borrow.Author.Tests.{eqb-true, eqb-false}
-use Rattle.rules.specs.Facts.{Claims}
 use Rattle.rules.specs.Words.{isReturn, parentAt, unitAt, slotAt, grant, blankUnit, blankSlot}
 use Rattle.rules.specs.Sound.{Sound, sound}
 use Rattle.rules.specs.Steps.{actionOf, unitOf, slotOf, waitingWith, returned, deliverEffect, recordEffect, effect, applied, soundStep, step}
 use Rattle.rules.specs.Lists.{after, accepted, tally, startBy, startCount, grantBy, grantCount, takenBy, takenCount}
 use Rattle.rules.proofs.SoundLaws.{unit-weight, slot-weight}
-use Rattle.rules.proofs.Accepted.{AcceptedAs, step-sound, accepted-sound, accepted-as}
+use Rattle.rules.proofs.Accepted.{AcceptedAs, accepted-as}
 use Rattle.rules.proofs.StepFits.{accepted-keeps-sound}
 use Rattle.rules.specs.declared.Kind.{Kind}
 use Rattle.rules.specs.declared.Kind.the-variants.{Empty, Work, Return, Request, Supply}
@@ -73,6 +71,7 @@ module _ (b : Board) (r : StepRecord) (h : Sound b) where
     where
       part : slotAt b (r .slot) .weight ≤ b .debt
       part = omega (arith, slot-weight b h (r .slot) (omega (arith, h .s1-sizes, c .places)), h .s5-s6-debt)
+
       by-receiver : (t : Bool)
           → applied b (slotAt b (r .slot) .to) (r .slot) (cond t (OnSlot blankSlot (b .debt - slotAt b (r .slot) .weight)) (OnBoth (returned (b .delay) (unitAt b (slotAt b (r .slot) .to)) (slotAt b (r .slot) .weight) (unitAt b (slotAt b (r .slot) .to) .state)) blankSlot (b .debt))) .board .debt
           + cond t (slotAt b (r .slot) .weight) 0 ≡ b .debt + grant * 0
@@ -87,6 +86,7 @@ module _ (b : Board) (r : StepRecord) (h : Sound b) where
     where
       part : unitAt b (r .unit) .weight ≤ b .debt
       part = omega (arith, unit-weight b h (r .unit) (omega (arith, h .s1-sizes, c .places)), h .s5-s6-debt)
+
       by-unit : (t : Bool) → eqb (r .unit) 0 ≡ t → applied b (r .unit) 0 (cond t (OnUnit blankUnit (b .debt - unitAt b (r .unit) .weight)) (OnUnit (waitingWith (unitAt b (r .unit) .weight) (b .delay)) (b .debt))) .board .debt + cond t (unitAt b 0 .weight) 0 ≡ b .debt
       by-unit true e = omega (arith, part, ap (λ (i : ℕ). unitAt b i .weight) (eqb-true (r .unit) 0 e))
       by-unit false e = omega arith

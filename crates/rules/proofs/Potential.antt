@@ -6,25 +6,22 @@ use mathlib.Core.List.{List, [], _∷_}
 use Prim.Native.Nat.{ℕ, zero, suc, _+_, _-_, _*_, _≤_, _<_}
 use native.Mathlib.Nat.{add-mul, mul-suc, mul-le-mul-left}
 use native.Mathlib.Omega.{arith}
-use lib.ListN.{length, getD, set}
+use lib.ListN.{getD, set}
 use lib.Seq.{set-getD}
 use lib.Dec.{eqb}
 use borrow.Author.Tests.{eqb-false, eq-eqb}
-use Rattle.rules.specs.Facts.{Claims, sumOf, oneIf}
+use Rattle.rules.specs.Facts.{sumOf, oneIf}
 use Rattle.rules.specs.Words.{isIdle, isEmpty, isActive, isWaiting, isWork, isReturn, parentAt, unitAt, slotAt, blankUnit, blankSlot}
-use Rattle.rules.specs.Sound.{pendingIn, unitsWeight, slotsWeight, Sound}
-use Rattle.rules.specs.Depths.{depth, deepest, greatestDepth}
+use Rattle.rules.specs.Sound.{pendingIn, Sound}
+use Rattle.rules.specs.Depths.{depth, greatestDepth}
 use Rattle.rules.specs.Steps.{message, waitingWith, returned, actionOf, unitOf, slotOf, returnEffect, deliverEffect, tickEffect, releaseEffect, recordEffect, changed, applied, step}
-use Rattle.rules.specs.Lists.{after, startCount, startBy}
-use Rattle.rules.specs.Drains.{verdict, Quiet, DrainStep, Drain, waitingUnits, returnsUnderWay, drainBound}
-use Rattle.rules.specs.Guarantee.{Fits16, Longer, Drains}
+use Rattle.rules.specs.Lists.{startBy}
+use Rattle.rules.specs.Drains.{Quiet, DrainStep, waitingUnits, returnsUnderWay, drainBound}
 use Rattle.rules.proofs.FactLaws.{true-not-false}
-use Rattle.rules.proofs.SumLaws.{sum-set, sum-bound, PartAbove, sum-above}
+use Rattle.rules.proofs.SumLaws.{sum-set, sum-bound}
 use Rattle.rules.proofs.SoundLaws.{below-or-not, parent-below, unit-past, slot-past}
-use Rattle.rules.proofs.Accepted.{AcceptedAs, accepted-as, step-does}
-use Rattle.rules.proofs.StepFits.{active-is, waiting-is, empty-is, unit-row-as, slot-row-as, pending-as, suspended-active, pending-suspended}
-use Rattle.rules.proofs.ListLaws.{step-keeps-sound}
-use Rattle.rules.proofs.FinishedLaws.{debt-finished}
+use Rattle.rules.proofs.Accepted.{AcceptedAs, accepted-as}
+use Rattle.rules.proofs.StepFits.{waiting-is, unit-row-as, slot-row-as, pending-as, suspended-active, pending-suspended}
 use Rattle.rules.proofs.DepthLaws.{depth-at-most, deeper-than-parent}
 use Rattle.rules.specs.declared.State.{State}
 use Rattle.rules.specs.declared.State.the-variants.{Idle, Active, Waiting}
@@ -32,14 +29,12 @@ use Rattle.rules.specs.declared.Kind.{Kind}
 use Rattle.rules.specs.declared.Kind.the-variants.{Empty, Work, Return, Request, Supply}
 use Rattle.rules.specs.declared.Action.{Action}
 use Rattle.rules.specs.declared.Action.the-variants.{Unknown, Start, Send, Request as RequestStep, Deliver, Rest, Tick, Release}
-use Rattle.rules.specs.declared.Effect.{Effect}
 use Rattle.rules.specs.declared.Effect.the-variants.{OnSlot, OnBoth}
 use Rattle.rules.specs.declared.UnitRecord.{UnitRecord}
 use Rattle.rules.specs.declared.Slot.{Slot}
 use Rattle.rules.specs.declared.Board.{Board}
 use Rattle.rules.specs.declared.StepRecord.{StepRecord}
 use Rattle.rules.specs.declared.Outcome.{Outcome}
-use Rattle.rules.specs.declared.Verdict.the-variants.{Finished}
 
 -- ---- the potential: the steps that a waiting unit and a return under way can still cause
 abbrev pub unitWorth : ℕ → List ℕ → ℕ → UnitRecord → State → ℕ
@@ -89,15 +84,14 @@ module _ (b : Board) (h : Sound b) (q : Quiet b) where
   lower-both u s x y debt l k a e w = record {
     quiet = record {
       none-active = set-all (λ (z : UnitRecord). isActive (z .state) ≡ false) (b .units) u x blankUnit a (q .none-active);
-      no-work = set-all (λ (z : Slot). isWork (z .kind) ≡ false) (b .slots) s y blankSlot e (q .no-work)
+      no-work = set-all (λ (z : Slot). isWork (z .kind) ≡ false) (b .slots) s y blankSlot e (q .no-work);
     };
-    less = omega
-      (
-        arith,
-        sum-set worthOf (b .units) u x blankUnit (omega (arith, h .s1-sizes, l)),
-        sum-set (λ j z. slotWorthOf z) (b .slots) s y blankSlot (omega (arith, h .s1-sizes, k)),
-        w,
-      )
+    less = omega (
+      arith,
+      sum-set worthOf (b .units) u x blankUnit (omega (arith, h .s1-sizes, l)),
+      sum-set (λ j z. slotWorthOf z) (b .slots) s y blankSlot (omega (arith, h .s1-sizes, k)),
+      w,
+    );
   }
 
   lower-unit : (u : ℕ) (x : UnitRecord) (debt : ℕ) → u < b .n → isActive (x .state) ≡ false → worthOf u x + 1 ≤ worthOf u (unitAt b u) → Lower b (changed b (set (b .units) u x) (b .slots) debt)
@@ -178,6 +172,7 @@ module _ (b : Board) (h : Sound b) (q : Quiet b) where
           by-state l Idle z = inner-lower l
           by-state l Active z = absurd (not-active v z)
           by-state l Waiting z = inner-lower l
+
           by-receiver : (t : Bool) → eqb v 0 ≡ t → Lower b (applied b v (r .slot) (cond t (OnSlot blankSlot (b .debt - y .weight)) (OnBoth (returned (b .delay) x (y .weight) (x .state)) blankSlot (b .debt))) .board)
           by-receiver true z = lower-slot (r .slot) blankSlot _ (c .places .0) refl (omega (arith, slot-worth-as (r .slot) Return e))
           by-receiver false z = by-state (omega (arith, eqb-false v 0 z)) (x .state) refl
@@ -231,6 +226,7 @@ module _ (b : Board) (h : Sound b) where
       waiting-most e =
           below-or-not i (b .n) (λ p. omega (arith, deep-most i (unit-row-as b h i Waiting p e .1 .1 .1 .0) p, unit-row-as b h i Waiting p e))
           (λ p. absurd (true-not-false (sym (unit-past b h i p) ∙ ap isIdle e)))
+
       by-state : (k : State) → unitAt b i .state ≡ k → unitWorth (b .delay) (b .parents) i (unitAt b i) k ≤ oneIf (isWaiting k) * most
       by-state Idle e = omega arith
       by-state Active e = omega arith
@@ -243,9 +239,10 @@ module _ (b : Board) (h : Sound b) where
       return-most e =
           below-or-not j (b .m)
           (λ p.
-            let row = slot-row-as b h j Return p e in
-            omega (arith, deep-most (slotAt b j .from) (row .0) (row .1 .0), ap (λ (k : ℕ). (b .delay + 2) * depth (b .parents) k) (row .1 .1 .0)))
+          let row = slot-row-as b h j Return p e in
+          omega (arith, deep-most (slotAt b j .from) (row .0) (row .1 .0), ap (λ (k : ℕ). (b .delay + 2) * depth (b .parents) k) (row .1 .1 .0)))
           (λ p. absurd (true-not-false (sym (slot-past b h j p) ∙ ap isEmpty e)))
+
       by-kind : (k : Kind) → slotAt b j .kind ≡ k → slotWorth (b .delay) (b .parents) (slotAt b j) k ≤ oneIf (isReturn k) * most
       by-kind Empty e = omega arith
       by-kind Work e = omega arith
@@ -255,10 +252,9 @@ module _ (b : Board) (h : Sound b) where
 
   pub potential-bound : potential b ≤ drainBound b
   unfolding drainBound waitingUnits returnsUnderWay unitsWorth slotsWorth
-  potential-bound = omega
-    (
-      arith,
-      sum-bound (λ i u. unitWorth (b .delay) (b .parents) i u (u .state)) (λ i u. oneIf (isWaiting (u .state))) most (b .units) blankUnit (λ i l. unit-most i (omega (arith, l, h .s1-sizes))),
-      sum-bound (λ j y. slotWorth (b .delay) (b .parents) y (y .kind)) (λ j y. oneIf (isReturn (y .kind))) most (b .slots) blankSlot (λ j l. slot-most j (omega (arith, l, h .s1-sizes))),
-      add-mul (sumOf (λ i u. oneIf (isWaiting (u .state))) (b .units)) (sumOf (λ j y. oneIf (isReturn (y .kind))) (b .slots)) most,
-    )
+  potential-bound = omega (
+    arith,
+    sum-bound (λ i u. unitWorth (b .delay) (b .parents) i u (u .state)) (λ i u. oneIf (isWaiting (u .state))) most (b .units) blankUnit (λ i l. unit-most i (omega (arith, l, h .s1-sizes))),
+    sum-bound (λ j y. slotWorth (b .delay) (b .parents) y (y .kind)) (λ j y. oneIf (isReturn (y .kind))) most (b .slots) blankSlot (λ j l. slot-most j (omega (arith, l, h .s1-sizes))),
+    add-mul (sumOf (λ i u. oneIf (isWaiting (u .state))) (b .units)) (sumOf (λ j y. oneIf (isReturn (y .kind))) (b .slots)) most,
+  )

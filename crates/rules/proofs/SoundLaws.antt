@@ -1,20 +1,18 @@
 -- Soundness: its test and its claims agree, and what a sound board says of each entry.
-use mathlib.Core.Path.{_≡_, refl, sym, ap, subst, _∙_}
-use mathlib.Core.Bool.{Bool, true, false, cond, _&&_}
-use mathlib.Core.List.{List, [], _∷_}
+use mathlib.Core.Path.{_≡_, refl, sym, subst}
+use mathlib.Core.Bool.{Bool, true, false, cond}
+use mathlib.Core.List.{List, _∷_}
 use Prim.Native.Nat.{ℕ, zero, suc, _+_, _≤_, _<_}
 use native.Mathlib.Omega.{arith}
-use lib.ListN.{length, getD, List·getD-eq-default}
+use lib.ListN.{List·getD-eq-default}
 use lib.Dec.{ltb}
 use borrow.Author.Tests.{lt-ltb, le-ltb, ltb-true, ltb-false}
-use Rattle.rules.specs.Facts.{Fact, holds, Claims, tests, Each, each, sumOf, oneIf}
-use Rattle.rules.specs.Words.{isIdle, isActive, isEmpty, blankUnit, blankSlot, parentAt, unitAt, slotAt}
-use Rattle.rules.specs.Sound.{sizes, parentRow, lowerParent, unitRow, stateRow, slotRow, kindRow, pendingRow, pendingIn, pending, debtRow, unitsWeight, slotsWeight, weightOut, Sound, soundRow, sound}
+use Rattle.rules.specs.Facts.{Fact, holds, Claims, oneIf}
+use Rattle.rules.specs.Words.{isIdle, isEmpty, blankUnit, blankSlot, parentAt, unitAt, slotAt}
+use Rattle.rules.specs.Sound.{sizes, parentRow, lowerParent, unitRow, stateRow, slotRow, kindRow, pendingRow, pending, debtRow, unitsWeight, slotsWeight, Sound, soundRow, sound}
 use Rattle.rules.proofs.FactLaws.{claims, claims-tested, each-claims, each-tested, each-at}
 use Rattle.rules.proofs.SumLaws.{sum-part}
-use Rattle.rules.specs.declared.State.{State}
 use Rattle.rules.specs.declared.State.the-variants.{Idle}
-use Rattle.rules.specs.declared.Kind.{Kind}
 use Rattle.rules.specs.declared.Kind.the-variants.{Empty}
 use Rattle.rules.specs.declared.UnitRecord.{UnitRecord}
 use Rattle.rules.specs.declared.Slot.{Slot}

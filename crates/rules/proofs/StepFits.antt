@@ -1,28 +1,27 @@
 -- Each step's change fits: a lemma for each action, and with them that a step keeps a sound board sound.
 use mathlib.Core.Path.{_≡_, refl, sym, ap, subst, _∙_}
 use mathlib.Core.Bool.{Bool, true, false, cond}
-use Prim.Native.Nat.{ℕ, zero, suc, _+_, _-_, _/_, _≤_, _<_}
+use Prim.Native.Nat.{ℕ, _+_, _-_, _/_, _≤_, _<_}
 use native.Mathlib.Nat.{not-suc-le-zero}
 use native.Mathlib.Omega.{arith}
 use lib.Dec.{leb, eqb}
-use borrow.Author.Tests.{leb-true, leb-false, eqb-true, eqb-false, eq-eqb, ne-eqb}
+use borrow.Author.Tests.{leb-true, eqb-false, eq-eqb, ne-eqb}
 use Rattle.rules.specs.Facts.{Claims, oneIf}
 use Rattle.rules.specs.Words.{isActive, isWaiting, isEmpty, parentAt, unitAt, slotAt, grant, ceiling, blankUnit, blankSlot}
 use Rattle.rules.specs.Sound.{stateRow, kindRow, pendingIn, pending, Sound}
-use Rattle.rules.specs.Steps.{share, shared, grantFits, message, returned, waitingWith, worked, supplied, actionOf, unitOf, slotOf, deliverEffect, returnEffect, restEffect, recordEffect, applied, step}
+use Rattle.rules.specs.Steps.{share, shared, grantFits, message, returned, waitingWith, worked, supplied, unitOf, slotOf, deliverEffect, returnEffect, restEffect, recordEffect, step}
 use Rattle.rules.proofs.FactLaws.{asked}
 use Rattle.rules.proofs.SumLaws.{sum-part}
-use Rattle.rules.proofs.SoundLaws.{parent-below, unit-row, slot-row, pending-row, unit-weight, slot-weight, weights-fit}
+use Rattle.rules.proofs.SoundLaws.{parent-below, unit-row, slot-row, pending-row, unit-weight, slot-weight}
 use Rattle.rules.proofs.Changes.{Fits, FitsEffect, unit-change, slot-change, effect-sound}
-use Rattle.rules.proofs.Accepted.{AcceptedAs, accepted-sound, accepted-as}
+use Rattle.rules.proofs.Accepted.{AcceptedAs}
 use Rattle.rules.specs.declared.State.{State}
 use Rattle.rules.specs.declared.State.the-variants.{Idle, Active, Waiting}
 use Rattle.rules.specs.declared.Kind.{Kind}
 use Rattle.rules.specs.declared.Kind.the-variants.{Empty, Work, Return, Request, Supply}
 use Rattle.rules.specs.declared.Action.{Action}
 use Rattle.rules.specs.declared.Action.the-variants.{Unknown, Start, Send, Request as RequestStep, Deliver, Rest, Tick, Release}
-use Rattle.rules.specs.declared.Effect.{Effect}
-use Rattle.rules.specs.declared.Effect.the-variants.{Refused, OnUnit, OnSlot, OnBoth}
+use Rattle.rules.specs.declared.Effect.the-variants.{OnUnit, OnSlot, OnBoth}
 use Rattle.rules.specs.declared.UnitRecord.{UnitRecord}
 use Rattle.rules.specs.declared.Slot.{Slot}
 use Rattle.rules.specs.declared.Board.{Board}
@@ -100,6 +99,7 @@ module _ (b : Board) (r : StepRecord) (h : Sound b) where
     where
       none : unitAt b i .weight ≡ 0
       none = omega (arith, unit-weight b h i (omega (arith, h .s1-sizes, l)), h .s5-s6-debt, e)
+
       by-state : (k : State) → unitAt b i .state ≡ k → unitAt b i .suspended ≡ false
       by-state Idle q = unit-row-as b h i Idle l q .1 .1 .0
       by-state Active q = absurd (omega (arith, unit-row-as b h i Active l q, none))
@@ -123,7 +123,7 @@ module _ (b : Board) (r : StepRecord) (h : Sound b) where
         pending-here = omega (arith, pending-as (r .unit) (slotAt b (r .slot)) Empty empty);
         pending-else = λ i n. sym (pending-as i (slotAt b (r .slot)) Empty empty);
         weight-kept = omega (arith, part, slot-row-as b h (r .slot) Empty (c .places .1 .1 .0) empty);
-        debt-fits = debt-ceiling
+        debt-fits = debt-ceiling;
       }
 
   request-fits : AcceptedAs b r RequestStep
@@ -139,7 +139,7 @@ module _ (b : Board) (r : StepRecord) (h : Sound b) where
         pending-here = omega (arith, ap oneIf (eq-eqb (r .unit) (r .unit) refl), pending-as (r .unit) (slotAt b (r .slot)) Empty empty, ap oneIf (c .records .1 .0));
         pending-else = λ i n. ap oneIf (ne-eqb (r .unit) i (λ e. n (sym e))) ∙ sym (pending-as i (slotAt b (r .slot)) Empty empty);
         weight-kept = omega (arith, slot-row-as b h (r .slot) Empty (c .places .1 .0) empty);
-        debt-fits = debt-ceiling
+        debt-fits = debt-ceiling;
       }
 
   rest-fits : AcceptedAs b r Rest → FitsEffect b (r .unit) 0 (restEffect (b .debt) (b .delay) (r .unit) (unitAt b (r .unit)))
@@ -147,8 +147,10 @@ module _ (b : Board) (r : StepRecord) (h : Sound b) where
     where
       kept : unitAt b (r .unit) .suspended ≡ false
       kept = c .records .1 .0
+
       part : unitAt b (r .unit) .weight ≤ b .debt
       part = omega (arith, unit-weight b h (r .unit) (omega (arith, h .s1-sizes, c .places)), h .s5-s6-debt)
+
       by-unit : (t : Bool) → eqb (r .unit) 0 ≡ t → FitsEffect b (r .unit) 0 (cond t (OnUnit blankUnit (b .debt - unitAt b (r .unit) .weight)) (OnUnit (waitingWith (unitAt b (r .unit) .weight) (b .delay)) (b .debt)))
       by-unit true e = unit-change b h (r .unit) blankUnit _ (c .places .0) (refl, (refl, (refl, tt))) (sym kept) (omega (arith, part)) (omega (arith, debt-ceiling))
       by-unit false e =
@@ -173,7 +175,7 @@ module _ (b : Board) (r : StepRecord) (h : Sound b) where
         pending-here = omega (arith, pending-as (r .unit) (slotAt b (r .slot)) Empty empty, ap oneIf (waiting .1 .1 .0));
         pending-else = λ i n. sym (pending-as i (slotAt b (r .slot)) Empty empty);
         weight-kept = omega (arith, slot-row-as b h (r .slot) Empty (c .places .1 .0) empty);
-        debt-fits = debt-ceiling
+        debt-fits = debt-ceiling;
       }
 
   -- ---- deliver, by the kind of the message
@@ -198,7 +200,7 @@ module _ (b : Board) (r : StepRecord) (h : Sound b) where
       pending-here = omega (arith, here);
       pending-else = else;
       weight-kept = omega (arith, w);
-      debt-fits = debt-ceiling
+      debt-fits = debt-ceiling;
     }
 
     -- work and returns are never pending
@@ -229,10 +231,13 @@ module _ (b : Board) (r : StepRecord) (h : Sound b) where
       where
         row : Claims (kindRow b y Return)
         row = slot-row-as b h (r .slot) Return used e
+
         receiver : y .to < b .n
         receiver = omega (arith, row, parent-below b h (y .from) (row .0) (row .1 .0))
+
         kept : (i : ℕ) → 0 ≡ pendingIn i y (y .kind)
         kept = unmoved Return e (λ i. refl)
+
         by-state : (1 ≤ y .to) → (k : State) → x .state ≡ k → Fits b (y .to) (r .slot) (returned (b .delay) x (y .weight) k) blankSlot (b .debt)
         by-state l Idle q =
             emptied _ receiver (waiting-row (b .delay) (y .to) (x .weight + y .weight) (b .delay) (omega (arith, row)) (omega arith) l false refl)
@@ -243,6 +248,7 @@ module _ (b : Board) (r : StepRecord) (h : Sound b) where
         by-state l Waiting q =
             emptied _ receiver (waiting-row (b .delay) (y .to) (x .weight + y .weight) (b .delay) (omega (arith, row)) (omega arith) l false refl)
             (omega (arith, ap oneIf (unit-row-as b h (y .to) Waiting receiver q .1 .1 .0), kept (y .to))) (λ i n. kept i) refl
+
         by-receiver : (t : Bool) → eqb (y .to) 0 ≡ t → FitsEffect b (y .to) (r .slot) (cond t (OnSlot blankSlot (b .debt - y .weight)) (OnBoth (returned (b .delay) x (y .weight) (x .state)) blankSlot (b .debt)))
         by-receiver true q =
             slot-change b h (r .slot) blankSlot (b .debt - y .weight) used (omega arith) kept

@@ -1,25 +1,29 @@
 -- The guarantee holds, for every accepted opening and every list of steps; and on a finished board every step but a start is refused.
 use mathlib.Core.Path.{_≡_, refl, sym, ap, subst, _∙_}
-use mathlib.Core.List.{List}
-use Prim.Native.Nat.{ℕ, _+_}
+use mathlib.Core.List.{List, [], _∷_}
+use Prim.Native.Nat.{ℕ, _+_, _*_}
+use native.Mathlib.Nat.{zero-mul}
 use native.Mathlib.Omega.{arith}
+use Rattle.rules.specs.Facts.{sumOf, oneIf}
+use Rattle.rules.specs.Words.{isActive, isWaiting, isWork, isReturn, blankUnit, blankSlot}
 use Rattle.rules.specs.Sound.{Sound}
+use Rattle.rules.specs.Depths.{greatestDepth}
 use Rattle.rules.specs.Opening.{fresh, opening}
-use Rattle.rules.specs.Steps.{step}
-use Rattle.rules.specs.Lists.{after, startCount}
-use Rattle.rules.specs.Drains.{verdict, Quiet, Complete}
-use Rattle.rules.specs.Guarantee.{Guaranteed, Guarantee}
+use Rattle.rules.specs.Lists.{after}
+use Rattle.rules.specs.Drains.{Quiet, Complete, Drain, waitingUnits, returnsUnderWay, drainBound}
+use Rattle.rules.specs.Guarantee.{Guarantee, FinishedRefuses}
+use Rattle.rules.proofs.SumLaws.{sum-none}
 use Rattle.rules.proofs.FreshSound.{opening-passed, opening-fresh, fresh-sound}
 use Rattle.rules.proofs.ListLaws.{list-keeps-sound, list-account}
 use Rattle.rules.proofs.FinishedLaws.{finished-complete}
 use Rattle.rules.proofs.DrainLaws.{quiet-drains}
+use Rattle.rules.specs.declared.State.{State}
+use Rattle.rules.specs.declared.Kind.{Kind}
 use Rattle.rules.specs.declared.Board.{Board}
-use Rattle.rules.specs.declared.StepRecord.{StepRecord}
 use Rattle.rules.specs.declared.Outcome.{Outcome}
-use Rattle.rules.specs.declared.Verdict.the-variants.{Finished}
 
 -- the board of an accepted opening is sound and has nothing out
-opening-sound : (m d : ℕ) (ps : List ℕ) → opening m d ps .answer ≡ 0 → (Sound (opening m d ps .board)) × (opening m d ps .board .debt ≡ 0)
+pub opening-sound : (m d : ℕ) (ps : List ℕ) → opening m d ps .answer ≡ 0 → (Sound (opening m d ps .board)) × (opening m d ps .board .debt ≡ 0)
 unfolding fresh
 opening-sound m d ps e =
     let c = opening-passed m d ps e in
@@ -36,5 +40,28 @@ guarantee m d ps rs e =
       conserved = h .s5-s6-debt .0;
       accounted = list-account f rs (start .0) ∙ omega (arith, start .1);
       finished = finished-complete (after f rs) h;
-      drains = quiet-drains (after f rs) h
+      drains = quiet-drains (after f rs) h;
     }
+
+-- ---- a finished board is quiet and its bound on drains is 0, so no step but a start is accepted
+complete-quiet : (b : Board) → Complete b → Quiet b
+complete-quiet b c = record { none-active = λ i. ap isActive (c .idle i); no-work = λ j. ap isWork (c .empty j) }
+
+complete-bound : (b : Board) → Complete b → drainBound b ≡ 0
+unfolding drainBound waitingUnits returnsUnderWay
+complete-bound b c = ap (λ (k : ℕ). k * ((b .delay + 2) * greatestDepth b)) none ∙ zero-mul _
+  where
+    none : sumOf (λ i u. oneIf (isWaiting (u .state))) (b .units) + sumOf (λ j y. oneIf (isReturn (y .kind))) (b .slots) ≡ 0
+    none = omega (
+      arith,
+      sum-none (λ i u. oneIf (isWaiting (u .state))) (b .units) blankUnit (λ i l. ap (λ (k : State). oneIf (isWaiting k)) (c .idle i)),
+      sum-none (λ j y. oneIf (isReturn (y .kind))) (b .slots) blankSlot (λ j l. ap (λ (k : Kind). oneIf (isReturn k)) (c .empty j)),
+    )
+
+pub finished-refuses : FinishedRefuses
+unfolding Guarantee FinishedRefuses Drain
+finished-refuses m d ps rs r e f n z =
+    let b : Board = after (opening m d ps .board) rs in
+    let g = guarantee m d ps rs e in
+    let c : Complete b = g .finished .0 f in
+    omega (arith, g .drains (complete-quiet b c) .bounded (r ∷ []) ((z, n), tt), complete-bound b c)

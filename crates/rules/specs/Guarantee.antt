@@ -7,6 +7,7 @@ use lib.ListN.{length}
 use Rattle.rules.specs.Words.{grant}
 use Rattle.rules.specs.Sound.{Sound, weightOut}
 use Rattle.rules.specs.Opening.{opening}
+use Rattle.rules.specs.Steps.{step}
 use Rattle.rules.specs.Lists.{after, tally, startCount, grantCount, takenCount}
 use Rattle.rules.specs.Drains.{verdict, Complete, Quiet, Drain, DrainStep, drainBound}
 use Rattle.rules.specs.declared.Board.{Board}
@@ -47,3 +48,10 @@ pub record Guaranteed (f : Board) (rs : List StepRecord) (b : Board) : Type 0 wh
 -- for every accepted opening and every list of steps
 unfoldable pub Guarantee : Type 0
 Guarantee = (m d : ℕ) (ps : List ℕ) (rs : List StepRecord) → opening m d ps .answer ≡ 0 → Guaranteed (opening m d ps .board) rs (after (opening m d ps .board) rs)
+
+-- on a finished board that a list left, every step but a start is refused
+unfoldable pub FinishedRefuses : Type 0
+FinishedRefuses =
+    (m d : ℕ) (ps : List ℕ) (rs : List StepRecord) (r : StepRecord) → opening m d ps .answer ≡ 0
+    → verdict (after (opening m d ps .board) rs) ≡ Finished → startCount (after (opening m d ps .board) rs) r ≡ 0
+    → step (after (opening m d ps .board) rs) r .answer ≡ 0 → ⊥

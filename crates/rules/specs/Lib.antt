@@ -8,3 +8,4 @@ pub mod Steps
 pub mod Lists
 pub mod Drains
 pub mod Guarantee
+pub mod Cases

@@ -1,11 +1,11 @@
 -- The seven steps: for each its checks in the order of its bracket, then what an accepted step does.
-use mathlib.Core.Bool.{Bool, true, false, cond}
+use mathlib.Core.Bool.{true, false, cond}
 use mathlib.Core.List.{List, [], _∷_}
-use Prim.Native.Nat.{ℕ, suc, _+_, _-_, _/_}
+use Prim.Native.Nat.{ℕ, _+_, _-_, _/_}
 use lib.ListN.{getD, set}
 use lib.Dec.{leb, eqb}
 use Rattle.rules.specs.Facts.{Check, check, below, atMost, equal, holds, fails, judge}
-use Rattle.rules.specs.Words.{isActive, isWaiting, isEmpty, isRequest, blankUnit, blankSlot, parentAt, unitAt, slotAt, grant, ceiling}
+use Rattle.rules.specs.Words.{isActive, isWaiting, isEmpty, blankUnit, blankSlot, parentAt, unitAt, slotAt, grant, ceiling}
 use Rattle.rules.specs.Sound.{sound}
 use Rattle.rules.specs.declared.State.{State}
 use Rattle.rules.specs.declared.State.the-variants.{Idle, Active, Waiting}

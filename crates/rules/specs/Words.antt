@@ -1,6 +1,5 @@
 -- Words for the states, the kinds and the records, and how a board is read.
 use mathlib.Core.Bool.{Bool, true, false}
-use mathlib.Core.List.{List, [], _∷_}
 use Prim.Native.Nat.{ℕ}
 use lib.ListN.{getD}
 use Rattle.rules.specs.declared.State.{State}

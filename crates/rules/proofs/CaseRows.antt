@@ -1,0 +1,197 @@
+-- The worked cases hold. On a sound board the test of soundness is true, so a row's steps are computed without it.
+use mathlib.Core.Path.{_≡_, refl, sym, ap, ap₂, subst, _∙_}
+use mathlib.Core.Bool.{Bool, true, false, not, cond, _&&_}
+use mathlib.Core.List.{List, [], _∷_}
+use Prim.Native.Nat.{ℕ, zero, suc, _<_}
+use native.Mathlib.Nat.{le-of-suc-le-suc, not-suc-le-zero}
+use native.Mathlib.Omega.{arith}
+use lib.ListN.{length, List·getD-eq-default}
+use lib.Dec.{eqb}
+use borrow.Author.Tests.{eqb-true}
+use Rattle.rules.specs.Facts.{Fact, equal, holds, fails, Claims, Each, each, sumOf}
+use Rattle.rules.specs.Words.{isActive, isWaiting, isWork, unitAt, slotAt, blankUnit, blankSlot, ceiling}
+use Rattle.rules.specs.Sound.{pending, unitsWeight, slotsWeight, Sound, sound}
+use Rattle.rules.specs.Depths.{depthWithin, depth, deepest}
+use Rattle.rules.specs.Opening.{lowerParents, fresh, blankBoard, opening}
+use Rattle.rules.specs.Steps.{share, grantFits, actionOf, recordRule, effect, applied, soundStep, step}
+use Rattle.rules.specs.Lists.{after, answers, startBy}
+use Rattle.rules.specs.Drains.{Quiet, Drain, waitingUnits, returnsUnderWay, drainBound}
+use Rattle.rules.specs.Cases.{Row, shares, opens, runs, Right, AllRight, rows, attainedFrom, attainedBy, BoundAttained, stuckBoard, Stuck, deliver, wholeToRest}
+use Rattle.rules.proofs.FactLaws.{and-left, and-right, true-not-false, each-claims, each-at, asked}
+use Rattle.rules.proofs.SoundLaws.{sound-claims, below-or-not}
+use Rattle.rules.proofs.Accepted.{AcceptedAs, step-sound, accepted-as}
+use Rattle.rules.proofs.ListLaws.{step-keeps-sound, list-keeps-sound}
+use Rattle.rules.proofs.FinishedLaws.{verdict-sound}
+use Rattle.rules.proofs.Theorem.{opening-sound}
+use Rattle.rules.specs.declared.Action.{Action}
+use Rattle.rules.specs.declared.Action.the-variants.{Unknown, Start, Send, Request as RequestStep, Deliver, Rest, Tick, Release}
+use Rattle.rules.specs.declared.UnitRecord.{UnitRecord}
+use Rattle.rules.specs.declared.Slot.{Slot}
+use Rattle.rules.specs.declared.Board.{Board}
+use Rattle.rules.specs.declared.StepRecord.{StepRecord}
+use Rattle.rules.specs.declared.Outcome.{Outcome}
+use Rattle.rules.specs.declared.Verdict.{Verdict}
+use Rattle.rules.specs.declared.Verdict.the-variants.{Working, Finished, Refused}
+
+-- ---- the same list without the tests of soundness
+quickAfter : Board → List StepRecord → Board
+quickAfter b [] = b
+quickAfter b (r ∷ rs) = quickAfter (soundStep b r .board) rs
+
+quickAnswers : Board → List StepRecord → List ℕ
+quickAnswers b [] = []
+quickAnswers b (r ∷ rs) = soundStep b r .answer ∷ quickAnswers (soundStep b r .board) rs
+
+quick-after : (b : Board) (rs : List StepRecord) → Sound b → after b rs ≡ quickAfter b rs
+unfolding after quickAfter
+quick-after b [] h = refl
+quick-after b (r ∷ rs) h = quick-after (step b r .board) rs (step-keeps-sound b r h) ∙ ap (λ (o : Outcome). quickAfter (o .board) rs) (step-sound b r h)
+
+quick-answers : (b : Board) (rs : List StepRecord) → Sound b → answers b rs ≡ quickAnswers b rs
+unfolding answers quickAnswers
+quick-answers b [] h = refl
+quick-answers b (r ∷ rs) h =
+    ap (λ (ks : List ℕ). step b r .answer ∷ ks) (quick-answers (step b r .board) rs (step-keeps-sound b r h))
+    ∙ ap (λ (o : Outcome). o .answer ∷ quickAnswers (o .board) rs) (step-sound b r h)
+
+-- ---- a test of a row that computes, and what it shows
+sameList : List ℕ → List ℕ → Bool
+sameList [] [] = true
+sameList [] (k ∷ ks) = false
+sameList (j ∷ js) [] = false
+sameList (j ∷ js) (k ∷ ks) = eqb j k && sameList js ks
+
+same-list : (js ks : List ℕ) → sameList js ks ≡ true → js ≡ ks
+unfolding sameList
+same-list [] [] e = refl
+same-list [] (k ∷ ks) e = absurd (true-not-false (sym e))
+same-list (j ∷ js) [] e = absurd (true-not-false (sym e))
+same-list (j ∷ js) (k ∷ ks) e = ap₂ (λ (x : ℕ) (xs : List ℕ). x ∷ xs) (eqb-true j k (and-left (eqb j k) (sameList js ks) e)) (same-list js ks (and-right (eqb j k) (sameList js ks) e))
+
+tellsBy : Bool → Verdict → Bool
+tellsBy t Working = not t
+tellsBy t Finished = t
+tellsBy t (Refused k) = false
+
+tells-by : (t : Bool) (v : Verdict) → tellsBy t v ≡ true → cond t Finished Working ≡ v
+unfolding tellsBy
+tells-by true Working e = absurd (true-not-false (sym e))
+tells-by true Finished e = refl
+tells-by true (Refused k) e = absurd (true-not-false (sym e))
+tells-by false Working e = refl
+tells-by false Finished e = absurd (true-not-false (sym e))
+tells-by false (Refused k) e = absurd (true-not-false (sym e))
+
+rowRow : Row → List Fact
+rowRow (shares w given) = equal (share w) given ∷ []
+rowRow (opens m d ps k) = equal (opening m d ps .answer) k ∷ []
+rowRow (runs m d ps rs ks v) =
+    equal (opening m d ps .answer) 0
+    ∷ holds (sameList (quickAnswers (opening m d ps .board) rs) ks)
+    ∷ holds (tellsBy (eqb (quickAfter (opening m d ps .board) rs .debt) 0) v)
+    ∷ []
+
+row-right : (row : Row) → Claims (rowRow row) → Right row
+unfolding rowRow
+row-right (shares w given) c = c .0
+row-right (opens m d ps k) c = c .0
+row-right (runs m d ps rs ks v) c =
+    let f : Board = opening m d ps .board in
+    let h : Sound f = opening-sound m d ps (c .0) .0 in (
+      c .0,
+      quick-answers f rs h ∙ same-list _ ks (c .1 .0),
+      verdict-sound (after f rs) (list-keeps-sound f rs h) ∙ ap (λ (b : Board). cond (eqb (b .debt) 0) Finished Working) (quick-after f rs h) ∙ tells-by _ v (c .1 .1 .0),
+    )
+
+rows-right : (rs : List Row) → Each (λ i row. rowRow row) rs → AllRight rs
+unfolding Each
+rows-right [] c = tt
+rows-right (row ∷ rs) c = (row-right row (c .0), rows-right rs (c .1))
+
+-- one computed test over the whole table
+pub cases : AllRight rows
+unfolding rows rowRow sameList tellsBy each lowerParents opening fresh blankBoard recordRule effect applied soundStep quickAfter quickAnswers
+cases = rows-right rows (each-claims (λ i row. rowRow row) rows refl)
+
+-- ---- the bound attained
+abbrev zeroRow : ℕ → ℕ → List Fact
+zeroRow i k = equal k 0 ∷ []
+
+abbrev noStartRow : ℕ → StepRecord → List Fact
+noStartRow i r = equal (startBy (actionOf (r .kind))) 0 ∷ []
+
+-- a list whose answers are all 0 and that has no start is a drain
+drain-of : (b : Board) (rs : List StepRecord) → Each zeroRow (answers b rs) → Each noStartRow rs → Drain b rs
+unfolding Each Drain answers
+drain-of b [] a n = tt
+drain-of b (r ∷ rs) a n = ((a .0 .0, n .0 .0), drain-of (step b r .board) rs (a .1) (n .1))
+
+idleRow : ℕ → UnitRecord → List Fact
+idleRow i u = fails (isActive (u .state)) ∷ []
+
+noWorkRow : ℕ → Slot → List Fact
+noWorkRow j y = fails (isWork (y .kind)) ∷ []
+
+quiet-of : (b : Board) → each idleRow (b .units) ≡ true → each noWorkRow (b .slots) ≡ true → Quiet b
+unfolding idleRow noWorkRow
+quiet-of b u s = record {
+  none-active = λ i.
+      below-or-not i (length (b .units)) (λ l. each-at idleRow (b .units) i blankUnit l (each-claims idleRow (b .units) u) .0)
+      (λ l. ap (λ (x : UnitRecord). isActive (x .state)) (List·getD-eq-default (b .units) blankUnit l));
+  no-work = λ j.
+      below-or-not j (length (b .slots)) (λ l. each-at noWorkRow (b .slots) j blankSlot l (each-claims noWorkRow (b .slots) s) .0)
+      (λ l. ap (λ (y : Slot). isWork (y .kind)) (List·getD-eq-default (b .slots) blankSlot l));
+}
+
+abbrev attainedQuick : Board
+attainedQuick = quickAfter (opening 2 1 (0 ∷ []) .board) wholeToRest
+
+opened-sound : Sound (opening 2 1 (0 ∷ []) .board)
+unfolding each lowerParents opening
+opened-sound = opening-sound 2 1 (0 ∷ []) refl .0
+
+attained-after : attainedFrom ≡ attainedQuick
+attained-after = quick-after (opening 2 1 (0 ∷ []) .board) wholeToRest opened-sound
+
+attained-sound : Sound attainedQuick
+attained-sound = subst Sound attained-after (list-keeps-sound (opening 2 1 (0 ∷ []) .board) wholeToRest opened-sound)
+
+pub bound-attained : BoundAttained
+unfolding each sumOf lowerParents opening fresh blankBoard recordRule effect applied soundStep quickAfter quickAnswers idleRow noWorkRow drainBound waitingUnits returnsUnderWay deepest depth depthWithin
+bound-attained = record {
+  quiet = subst Quiet (sym attained-after) (quiet-of attainedQuick refl refl);
+  drain = subst (λ (b : Board). Drain b attainedBy) (sym attained-after)
+      (drain-of attainedQuick attainedBy (subst (λ (ks : List ℕ). Each zeroRow ks) (sym (quick-answers attainedQuick attainedBy attained-sound)) (each-claims zeroRow _ refl)) (each-claims noStartRow attainedBy refl));
+  attained = sym (ap drainBound attained-after);
+}
+
+-- ---- the stuck board
+-- the one number below 1
+at-zero : (i : ℕ) → i < 1 → (P : ℕ → Type 0) → P i → (P 0 → ⊥) → ⊥
+at-zero zero l P p n = n p
+at-zero (suc i) l P p n = not-suc-le-zero (le-of-suc-le-suc l)
+
+stuck-sound : Sound stuckBoard
+unfolding stuckBoard sound each sumOf pending unitsWeight slotsWeight
+stuck-sound = sound-claims stuckBoard refl
+
+-- its one unit is active and suspended, its one slot a request, and the debt is at the ceiling
+stuck-refuses : (r : StepRecord) (a : Action) → AcceptedAs stuckBoard r a → step stuckBoard r .answer ≡ 0 → ⊥
+unfolding stuckBoard applied
+stuck-refuses r Unknown c z = omega (arith, sym (ap (λ (o : Outcome). o .answer) (c .gives)) ∙ z)
+stuck-refuses r Start c z = omega (arith, c .records)
+stuck-refuses r Send c z = at-zero (r .unit) (c .places .0) (λ i. unitAt stuckBoard i .suspended ≡ false) (c .records .1 .0) true-not-false
+stuck-refuses r RequestStep c z = at-zero (r .unit) (c .places .0) (λ i. unitAt stuckBoard i .suspended ≡ false) (c .records .1 .0) true-not-false
+stuck-refuses r Deliver c z = at-zero (r .slot) (c .places .0) (λ i. Claims (asked (grantFits ceiling (slotAt stuckBoard i .kind)))) (c .records .1) (λ q. omega (arith, q))
+stuck-refuses r Rest c z = at-zero (r .unit) (c .places .0) (λ i. unitAt stuckBoard i .suspended ≡ false) (c .records .1 .0) true-not-false
+stuck-refuses r Tick c z = at-zero (r .unit) (c .places .0) (λ i. isWaiting (unitAt stuckBoard i .state) ≡ true) (c .records .0) (λ e. true-not-false (sym e))
+stuck-refuses r Release c z = at-zero (r .unit) (c .places .0) (λ i. isWaiting (unitAt stuckBoard i .state) ≡ true) (c .records .0) (λ e. true-not-false (sym e))
+
+pub stuck : Stuck stuckBoard
+unfolding stuckBoard recordRule effect applied soundStep
+stuck = record {
+  is-sound = stuck-sound;
+  not-finished = verdict-sound stuckBoard stuck-sound;
+  refused = λ r e. stuck-refuses r (actionOf (r .kind)) (accepted-as stuckBoard r stuck-sound (actionOf (r .kind)) refl e) e;
+  grant-refused = ap (λ (o : Outcome). o .answer) (step-sound stuckBoard (deliver 0) stuck-sound);
+}

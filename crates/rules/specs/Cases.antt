@@ -1,0 +1,132 @@
+-- Worked cases of the definitions: rows of one table, a board that is stuck, and the bound on drains attained.
+use mathlib.Core.Path.{_≡_}
+use mathlib.Core.Bool.{true}
+use mathlib.Core.List.{List, [], _∷_}
+use Prim.Native.Nat.{ℕ}
+use lib.ListN.{length, replicate}
+use Rattle.rules.specs.Words.{blankUnit, blankSlot, ceiling}
+use Rattle.rules.specs.Sound.{Sound}
+use Rattle.rules.specs.Opening.{opening}
+use Rattle.rules.specs.Steps.{share, message, step}
+use Rattle.rules.specs.Lists.{after, answers}
+use Rattle.rules.specs.Drains.{verdict, Quiet, Drain, drainBound}
+use Rattle.rules.specs.declared.State.the-variants.{Active}
+use Rattle.rules.specs.declared.Kind.the-variants.{Request}
+use Rattle.rules.specs.declared.Board.{Board}
+use Rattle.rules.specs.declared.StepRecord.{StepRecord}
+use Rattle.rules.specs.declared.Verdict.{Verdict}
+use Rattle.rules.specs.declared.Verdict.the-variants.{Working, Finished}
+
+-- ---- steps as they are asked for
+abbrev pub asks : ℕ → ℕ → ℕ → ℕ → StepRecord
+asks k u v s = record { kind = k; unit = u; other = v; slot = s }
+
+abbrev pub start : ℕ → StepRecord
+start u = asks 1 u 0 0
+
+abbrev pub send : ℕ → ℕ → ℕ → StepRecord
+send u v s = asks 2 u v s
+
+abbrev pub request : ℕ → ℕ → StepRecord
+request u s = asks 3 u 0 s
+
+abbrev pub deliver : ℕ → StepRecord
+deliver s = asks 4 0 0 s
+
+abbrev pub rest : ℕ → StepRecord
+rest u = asks 5 u 0 0
+
+abbrev pub tick : ℕ → StepRecord
+tick u = asks 6 u 0 0
+
+abbrev pub release : ℕ → ℕ → StepRecord
+release u s = asks 7 u 0 s
+
+-- ---- a row: a share, an opening's answer, or an accepted opening and a list of steps with their answers and the verdict after them
+pub data Row : Type 0 where
+  shares : ℕ → ℕ → Row
+  opens : ℕ → ℕ → List ℕ → ℕ → Row
+  runs : ℕ → ℕ → List ℕ → List StepRecord → List ℕ → Verdict → Row
+
+abbrev pub Right : Row → Type 0
+Right (shares w given) = share w ≡ given
+Right (opens m d ps k) = opening m d ps .answer ≡ k
+Right (runs m d ps rs ks v) = (opening m d ps .answer ≡ 0) × (answers (opening m d ps .board) rs ≡ ks) × (verdict (after (opening m d ps .board) rs) ≡ v)
+
+abbrev pub AllRight : List Row → Type 0
+AllRight [] = Unit {0}
+AllRight (row ∷ rows) = Right row × AllRight rows
+
+-- unit 1 of two gets 1,024 and sends ten times, which leaves it weight 1
+abbrev pub toWeightOne : List StepRecord → List StepRecord
+toWeightOne more =
+    start 0
+    ∷ send 0 1 0
+    ∷ deliver 0
+    ∷ send 1 0 0
+    ∷ send 1 0 1
+    ∷ send 1 0 2
+    ∷ send 1 0 3
+    ∷ send 1 0 4
+    ∷ send 1 0 5
+    ∷ send 1 0 6
+    ∷ send 1 0 7
+    ∷ send 1 0 8
+    ∷ send 1 0 9
+    ∷ more
+
+abbrev pub allAccepted : ℕ → List ℕ → List ℕ
+allAccepted n more = mathlib.Core.List._++_ (replicate n 0) more
+
+-- the whole case, up to the rest of unit 1 and after it
+abbrev pub wholeToRest : List StepRecord
+wholeToRest = start 0 ∷ send 0 1 0 ∷ rest 0 ∷ deliver 0 ∷ rest 1 ∷ []
+
+abbrev pub wholeCase : List StepRecord
+wholeCase = start 0 ∷ send 0 1 0 ∷ rest 0 ∷ deliver 0 ∷ rest 1 ∷ release 1 1 ∷ tick 1 ∷ release 1 1 ∷ deliver 1 ∷ []
+
+unfoldable pub rows : List Row
+rows =
+    shares 2 1
+    ∷ shares 3 1
+    ∷ shares 2047 1023
+    ∷ shares 2048 1024
+    ∷ shares 16777216 1024
+    ∷ runs 11 0 (0 ∷ []) (toWeightOne (send 1 0 10 ∷ [])) (allAccepted 13 (33 ∷ [])) Working
+    ∷ runs 1 0 [] (start 0 ∷ start 0 ∷ []) (0 ∷ 37 ∷ []) Working
+    ∷ runs 1 0 (0 ∷ []) (start 0 ∷ send 0 1 0 ∷ deliver 0 ∷ rest 1 ∷ release 1 0 ∷ []) (allAccepted 5 []) Working
+    ∷ runs 1 0 [] (start 0 ∷ rest 0 ∷ []) (0 ∷ 0 ∷ []) Finished
+    ∷ runs 11 0 (0 ∷ []) (toWeightOne (request 1 10 ∷ rest 1 ∷ [])) (allAccepted 14 (32 ∷ [])) Working
+    ∷ opens 1 0 (1 ∷ []) 12
+    ∷ runs 2 1 (0 ∷ []) wholeCase (0 ∷ 0 ∷ 0 ∷ 0 ∷ 0 ∷ 40 ∷ 0 ∷ 0 ∷ 0 ∷ []) Finished
+    ∷ []
+
+-- ---- the bound on drains is attained: after the rest of unit 1 in the whole case, by tick, release, deliver
+abbrev pub attainedFrom : Board
+attainedFrom = after (opening 2 1 (0 ∷ []) .board) wholeToRest
+
+abbrev pub attainedBy : List StepRecord
+attainedBy = tick 1 ∷ release 1 1 ∷ deliver 1 ∷ []
+
+pub record BoundAttained : Type 0 where
+  pub quiet : Quiet attainedFrom
+  pub drain : Drain attainedFrom attainedBy
+  pub attained : length attainedBy ≡ drainBound attainedFrom
+
+-- ---- a sound board on which every step is refused: its one unit is suspended, and its request would pass 2^40. It is active, so no drain begins here
+unfoldable pub stuckBoard : Board
+stuckBoard = record {
+  n = 1;
+  m = 1;
+  delay = 0;
+  debt = ceiling;
+  parents = replicate 64 0;
+  units = record { weight = ceiling; countdown = 0; state = Active; suspended = true } ∷ replicate 63 blankUnit;
+  slots = message Request 0 0 0 ∷ replicate 255 blankSlot;
+}
+
+pub record Stuck (b : Board) : Type 0 where
+  pub is-sound : Sound b
+  pub not-finished : verdict b ≡ Working
+  pub refused : (r : StepRecord) → step b r .answer ≡ 0 → ⊥
+  pub grant-refused : step b (deliver 0) .answer ≡ 36
