@@ -1,6 +1,6 @@
 -- The guarantee holds, for every accepted opening and every list of steps; and on a finished board every step but a start is refused.
 use mathlib.Core.Path.{_≡_, refl, sym, ap, subst, _∙_}
-use mathlib.Core.List.{List, [], _∷_}
+use mathlib.Core.List.{List, [], _∷_, _++_}
 use Prim.Native.Nat.{ℕ, _+_, _*_}
 use native.Mathlib.Nat.{zero-mul}
 use native.Mathlib.Omega.{arith}
@@ -9,9 +9,10 @@ use Rattle.rules.specs.Words.{isActive, isWaiting, isWork, isReturn, bla
 use Rattle.rules.specs.Sound.{Sound}
 use Rattle.rules.specs.Depths.{greatestDepth}
 use Rattle.rules.specs.Opening.{fresh, opening}
+use Rattle.rules.specs.Steps.{step}
 use Rattle.rules.specs.Lists.{after}
 use Rattle.rules.specs.Drains.{Quiet, Complete, Drain, waitingUnits, returnsUnderWay, drainBound}
-use Rattle.rules.specs.Guarantee.{Guarantee, FinishedRefuses}
+use Rattle.rules.specs.Guarantee.{Guaranteed, Guarantee, Carries, FinishedRefuses}
 use Rattle.rules.proofs.SumLaws.{sum-none}
 use Rattle.rules.proofs.FreshSound.{opening-passed, opening-fresh, fresh-sound}
 use Rattle.rules.proofs.ListLaws.{list-keeps-sound, list-account}
@@ -20,6 +21,7 @@ use Rattle.rules.proofs.DrainLaws.{quiet-drains}
 use Rattle.rules.specs.declared.State.{State}
 use Rattle.rules.specs.declared.Kind.{Kind}
 use Rattle.rules.specs.declared.Board.{Board}
+use Rattle.rules.specs.declared.StepRecord.{StepRecord}
 use Rattle.rules.specs.declared.Outcome.{Outcome}
 
 -- the board of an accepted opening is sound and has nothing out
@@ -42,6 +44,18 @@ guarantee m d ps rs e =
       finished = finished-complete (after f rs) h;
       drains = quiet-drains (after f rs) h;
     }
+
+-- ---- the guarantee as calls carry it
+pub after-append : (b : Board) (qs rs : List StepRecord) → after b (qs ++ rs) ≡ after (after b qs) rs
+unfolding after
+after-append b [] rs = refl
+after-append b (q ∷ qs) rs = after-append (step b q .board) qs rs
+
+pub carries : (b : Board) (rs : List StepRecord) → Carries b rs (after b rs)
+unfolding Guarantee
+carries b rs m d ps qs e q =
+    let f : Board = opening m d ps .board in
+    subst (λ (c : Board). Guaranteed f (qs ++ rs) c) (after-append f qs rs ∙ ap (λ (x : Board). after x rs) (sym q)) (guarantee m d ps (qs ++ rs) e)
 
 -- ---- a finished board is quiet and its bound on drains is 0, so no step but a start is accepted
 complete-quiet : (b : Board) → Complete b → Quiet b

@@ -1,6 +1,6 @@
 -- The guarantee, demand 3: one claim about every accepted opening and every list of steps, in whatever order.
 use mathlib.Core.Path.{_≡_}
-use mathlib.Core.List.{List}
+use mathlib.Core.List.{List, _++_}
 use mathlib.Core.Logic.{_↔_}
 use Prim.Native.Nat.{ℕ, _+_, _*_, _≤_, _<_, _^_}
 use lib.ListN.{length}
@@ -48,6 +48,12 @@ pub record Guaranteed (f : Board) (rs : List StepRecord) (b : Board) : Type 0 wh
 -- for every accepted opening and every list of steps
 unfoldable pub Guarantee : Type 0
 Guarantee = (m d : ℕ) (ps : List ℕ) (rs : List StepRecord) → opening m d ps .answer ≡ 0 → Guaranteed (opening m d ps .board) rs (after (opening m d ps .board) rs)
+
+-- the guarantee as a call carries it to its caller: of every accepted opening and list qs that led to b, where rs then led to c
+abbrev pub Carries : Board → List StepRecord → Board → Type 0
+Carries b rs c =
+    (m d : ℕ) (ps : List ℕ) (qs : List StepRecord) → opening m d ps .answer ≡ 0 → b ≡ after (opening m d ps .board) qs
+    → Guaranteed (opening m d ps .board) (qs ++ rs) c
 
 -- on a finished board that a list left, every step but a start is refused
 unfoldable pub FinishedRefuses : Type 0

@@ -8,4 +8,5 @@ pub mod Steps
 pub mod Lists
 pub mod Drains
 pub mod Guarantee
+pub mod Runs
 pub mod Cases

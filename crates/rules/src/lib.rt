@@ -93,6 +93,12 @@ pub enum Verdict {
     Refused(u16),
 }
 
+// What a run over a list gives: how many zeros it wrote among the answers, or the number that refused it.
+pub enum Ran {
+    Zeros(usize),
+    Refused(u16),
+}
+
 // A unit's share: what it keeps, and the weight that it gives away.
 pub struct Shared {
     pub unit: UnitRecord,
