@@ -1,14 +1,16 @@
 -- A run over a list of steps on a lent board, with a lent buffer for the answers.
 use mathlib.Core.Bool.{cond}
 use mathlib.Core.List.{List, [], _∷_, _++_}
-use Prim.Native.Nat.{ℕ, suc}
-use lib.ListN.{length, drop}
+use Prim.Native.Nat.{ℕ, suc, _-_}
+use lib.ListN.{length, drop, replicate}
 use lib.Dec.{eqb}
 use Rattle.rules.specs.Facts.{Check, check, atMost, holds, judge}
 use Rattle.rules.specs.Sound.{sound}
+use Rattle.rules.specs.Steps.{step}
 use Rattle.rules.specs.Lists.{after, answers}
 use Rattle.rules.specs.declared.Board.{Board}
 use Rattle.rules.specs.declared.StepRecord.{StepRecord}
+use Rattle.rules.specs.declared.Batch.{Batch}
 use Rattle.rules.specs.declared.Ran.{Ran}
 use Rattle.rules.specs.declared.Ran.the-variants.{Zeros, Refused}
 
@@ -34,3 +36,24 @@ runBuffer b rs out = judge (λ k. out) (runChecks b rs out) (answers b rs ++ dro
 -- the steps that were run: none where the run is refused
 unfoldable pub ranSteps : Board → List StepRecord → List ℕ → List StepRecord
 ranSteps b rs out = judge (λ k. []) (runChecks b rs out) rs
+
+-- ---- a batch: a list of at most 64 steps by value, with the debt after each step beside its answer
+unfoldable pub debts : Board → List StepRecord → List ℕ
+debts b [] = []
+debts b (r ∷ rs) = step b r .board .debt ∷ debts (step b r .board) rs
+
+-- 64 entries: those given, then zeros
+abbrev pub padded : List ℕ → List ℕ
+padded ks = ks ++ replicate (64 - length ks) 0
+
+abbrev pub batchChecks : Board → List Check
+batchChecks b = check (holds (sound b)) 30 ∷ []
+
+unfoldable pub batch : Board → List StepRecord → Batch
+batch b rs =
+    judge (λ k. record { ran = Refused k; board = b; answers = padded []; debts = padded [] })
+    (batchChecks b)
+    (record { ran = Zeros (zeros (answers b rs)); board = after b rs; answers = padded (answers b rs); debts = padded (debts b rs) })
+
+unfoldable pub batchSteps : Board → List StepRecord → List StepRecord
+batchSteps b rs = judge (λ k. []) (batchChecks b) rs

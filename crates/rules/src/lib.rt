@@ -99,6 +99,14 @@ pub enum Ran {
     Refused(u16),
 }
 
+// What a batch of at most 64 steps gives: as a run, with the answer to each step and the debt after it, and zeros behind them.
+pub struct Batch {
+    pub ran: Ran,
+    pub board: Board,
+    pub answers: [u16; 64],
+    pub debts: [u64; 64],
+}
+
 // A unit's share: what it keeps, and the weight that it gives away.
 pub struct Shared {
     pub unit: UnitRecord,
