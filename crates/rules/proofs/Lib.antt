@@ -12,3 +12,4 @@ pub mod Potential
 pub mod DrainLaws
 pub mod Theorem
 pub mod CaseRows
+pub mod LetterLaws

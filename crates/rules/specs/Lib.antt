@@ -5,6 +5,7 @@ pub mod Sound
 pub mod Opening
 pub mod Depths
 pub mod Steps
+pub mod Letters
 pub mod Lists
 pub mod Drains
 pub mod Guarantee

@@ -138,16 +138,19 @@ releaseEffect debt u p x = OnBoth blankUnit (message Return u p (x .weight)) deb
 abbrev pub actionOf : ℕ → Action
 actionOf k = getD (Unknown ∷ Start ∷ Send ∷ RequestStep ∷ Deliver ∷ Rest ∷ Tick ∷ Release ∷ []) k Unknown
 
--- the unit and the slot that a step may change: a delivery's unit is the receiver
+-- the unit and the slot that a step may change; a delivery's unit is the receiver that its slot names
+abbrev pub unitBy : StepRecord → ℕ → Action → ℕ
+unitBy r to Unknown = 0
+unitBy r to Start = r .unit
+unitBy r to Send = r .unit
+unitBy r to RequestStep = r .unit
+unitBy r to Deliver = to
+unitBy r to Rest = r .unit
+unitBy r to Tick = r .unit
+unitBy r to Release = r .unit
+
 abbrev pub unitOf : Board → StepRecord → Action → ℕ
-unitOf b r Unknown = 0
-unitOf b r Start = r .unit
-unitOf b r Send = r .unit
-unitOf b r RequestStep = r .unit
-unitOf b r Deliver = slotAt b (r .slot) .to
-unitOf b r Rest = r .unit
-unitOf b r Tick = r .unit
-unitOf b r Release = r .unit
+unitOf b r a = unitBy r (slotAt b (r .slot) .to) a
 
 abbrev pub slotOf : StepRecord → Action → ℕ
 slotOf r Unknown = 0
