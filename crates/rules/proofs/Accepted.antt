@@ -2,7 +2,7 @@
 use mathlib.Core.Path.{_≡_, refl, sym, ap, subst, _∙_}
 use mathlib.Core.Bool.{Bool, true, false, cond}
 use mathlib.Core.List.{List, [], _∷_}
-use Prim.Native.Nat.{ℕ, _≤_}
+use Prim.Native.Nat.{ℕ, _≤_, _<_}
 use native.Mathlib.Omega.{arith}
 use Rattle.rules.specs.Facts.{test, Claims, Check, check, judge}
 use Rattle.rules.specs.Words.{parentAt, unitAt, slotAt}
@@ -22,14 +22,17 @@ use Rattle.rules.specs.declared.Board.{Board}
 use Rattle.rules.specs.declared.StepRecord.{StepRecord}
 use Rattle.rules.specs.declared.Outcome.{Outcome}
 
--- ---- a judgement either passed every check or is a refusal by a number above 0
+-- ---- a judgement either passed every check or is a refusal by a number, which is above 0 and has at most two digits
+abbrev pub Number : ℕ → Type 0
+Number k = (1 ≤ k) × (k < 100)
+
 abbrev pub Numbered : List Check → Type 0
 Numbered [] = Unit {0}
-Numbered (check f k ∷ cs) = (1 ≤ k) × Numbered cs
+Numbered (check f k ∷ cs) = Number k × Numbered cs
 
 pub data Judged {A : Type 0} (refused : ℕ → A) (cs : List Check) (result : A) : Type 0 where
   passed : Claims (asked cs) → Judged refused cs result
-  failed : (k : ℕ) → 1 ≤ k → judge refused cs result ≡ refused k → Judged refused cs result
+  failed : (k : ℕ) → Number k → judge refused cs result ≡ refused k → Judged refused cs result
 
 pub judged : {A : Type 0} (refused : ℕ → A) (cs : List Check) (result : A) → Numbered cs → Judged refused cs result
 judged refused [] result n = passed tt
@@ -43,7 +46,7 @@ judged {A} refused (check f k ∷ cs) result n = by-test (test f) refl (judged r
     by-test true e j = by-rest e j
     by-test false e j = failed k (n .0) (ap (λ (t : Bool). cond t (judge refused cs result) (refused k)) e)
 
-place-numbered : (n m : ℕ) (r : StepRecord) (a : Action) → Numbered (placeChecks n m r a)
+pub place-numbered : (n m : ℕ) (r : StepRecord) (a : Action) → Numbered (placeChecks n m r a)
 place-numbered n m r Unknown = tt
 place-numbered n m r Start = omega arith
 place-numbered n m r Send = omega arith
@@ -60,7 +63,7 @@ grant-numbered debt Return = tt
 grant-numbered debt Request = omega arith
 grant-numbered debt Supply = tt
 
-record-numbered : (debt : ℕ) (x : UnitRecord) (y : Slot) (a : Action) → Numbered (recordChecks debt x y a)
+pub record-numbered : (debt : ℕ) (x : UnitRecord) (y : Slot) (a : Action) → Numbered (recordChecks debt x y a)
 record-numbered debt x y Unknown = tt
 record-numbered debt x y Start = omega arith
 record-numbered debt x y Send = omega arith
@@ -125,11 +128,11 @@ module _ (b : Board) (r : StepRecord) (h : Sound b) (a : Action) (named : action
         records = q;
         gives = by-action ∙ ap (λ (x : Effect). applied b u s x) (judge-passed Refused (placeChecks (b .n) (b .m) r a) rule p ∙ judge-passed Refused (recordChecks (b .debt) (unitAt b u) (slotAt b s) a) done q);
       }
-      by-records p (failed k l q) = absurd (refused-answer (effectBy b r a) k l (judge-passed Refused (placeChecks (b .n) (b .m) r a) rule p ∙ q) zero-answer)
+      by-records p (failed k l q) = absurd (refused-answer (effectBy b r a) k (l .0) (judge-passed Refused (placeChecks (b .n) (b .m) r a) rule p ∙ q) zero-answer)
 
       by-places : Judged Refused (placeChecks (b .n) (b .m) r a) rule → AcceptedAs b r a
       by-places (passed p) = by-records p (judged Refused (recordChecks (b .debt) (unitAt b u) (slotAt b s) a) done (record-numbered (b .debt) (unitAt b u) (slotAt b s) a))
-      by-places (failed k l q) = absurd (refused-answer (effectBy b r a) k l q zero-answer)
+      by-places (failed k l q) = absurd (refused-answer (effectBy b r a) k (l .0) q zero-answer)
 
 -- the other way: where the whole bracket holds, the step does what its effect says
 pub step-does : (b : Board) (r : StepRecord) → Sound b → (a : Action) → actionOf (r .kind) ≡ a

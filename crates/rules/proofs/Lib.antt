@@ -13,3 +13,4 @@ pub mod DrainLaws
 pub mod Theorem
 pub mod CaseRows
 pub mod LetterLaws
+pub mod AnswerLaws
