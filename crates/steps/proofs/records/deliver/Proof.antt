@@ -1,0 +1,95 @@
+use borrow.Author.Needs.{needs}
+use Rattle.steps.proofs.records.deliver.Statement.{statement}
+use Rattle.steps.proofs.records.deliver.Tie as tie
+use Rattle.steps.proofs.records.deliver.Reads as reads
+use Rattle.steps.proofs.records.deliver.Lts as lts
+use Rattle.steps.proofs.records.blank_slot.Reads as blank-slot-reads
+use Rattle.steps.proofs.records.grant.Reads as grant-reads
+use Rattle.steps.proofs.records.supplied.Reads as supplied-reads
+use Rattle.steps.proofs.records.take_return.Reads as take-return-reads
+use Rattle.steps.proofs.records.worked.Reads as worked-reads
+
+-- src/records.rt:187:24
+enum-told : tie.Need-enum-told
+enum-told c = search needs
+
+-- src/records.rt:188:38
+enum-told-2 : tie.Need-enum-told-2
+enum-told-2 c = search needs
+
+-- src/records.rt:188:38
+worked-requires : tie.Need-worked-requires
+worked-requires c κs = search needs
+
+-- src/records.rt:188:59
+blank-slot-requires : tie.Need-blank-slot-requires
+blank-slot-requires c κs = search needs
+
+-- src/records.rt:189:25
+enum-told-3 : tie.Need-enum-told-3
+enum-told-3 c = search needs
+
+-- src/records.rt:189:25
+take-return-requires : tie.Need-take-return-requires
+take-return-requires c κs = search needs
+
+-- src/records.rt:190:26
+enum-told-4 : tie.Need-enum-told-4
+enum-told-4 c = search needs
+
+-- src/records.rt:190:26
+grant-requires : tie.Need-grant-requires
+grant-requires c κs = search needs
+
+-- src/records.rt:191:40
+enum-told-5 : tie.Need-enum-told-5
+enum-told-5 c = search needs
+
+-- src/records.rt:191:40
+supplied-requires : tie.Need-supplied-requires
+supplied-requires c κs = search needs
+
+-- src/records.rt:191:63
+blank-slot-requires-2 : tie.Need-blank-slot-requires-2
+blank-slot-requires-2 c κs = search needs
+
+-- src/records.rt:181:1
+returns : tie.Need-returns
+returns c = search needs
+
+-- src/records.rt:181:1
+returns-2 : tie.Need-returns-2
+returns-2 c = ?
+
+-- src/records.rt:181:1
+returns-3 : tie.Need-returns-3
+returns-3 c = ?
+
+-- src/records.rt:181:1
+returns-4 : tie.Need-returns-4
+returns-4 c = ?
+
+-- src/records.rt:181:1
+returns-5 : tie.Need-returns-5
+returns-5 c = ?
+
+pub deliver-spec : {M : Type 1} → statement M
+deliver-spec =
+    tie.close
+    (tie.spec
+    enum-told
+    enum-told-2
+    worked-requires
+    blank-slot-requires
+    enum-told-3
+    take-return-requires
+    enum-told-4
+    grant-requires
+    enum-told-5
+    supplied-requires
+    blank-slot-requires-2
+    returns
+    returns-2
+    returns-3
+    returns-4
+    returns-5)

@@ -1,0 +1,132 @@
+use borrow.Author.Needs.{needs}
+use Rattle.steps.proofs.records.record_rule.Statement.{statement}
+use Rattle.steps.proofs.records.record_rule.Tie as tie
+use Rattle.steps.proofs.records.record_rule.Reads as reads
+use Rattle.steps.proofs.records.record_rule.Lts as lts
+use Rattle.steps.proofs.records.deliver.Reads as deliver-reads
+use Rattle.steps.proofs.records.release.Reads as release-reads
+use Rattle.steps.proofs.records.request.Reads as request-reads
+use Rattle.steps.proofs.records.rest.Reads as rest-reads
+use Rattle.steps.proofs.records.send.Reads as send-reads
+use Rattle.steps.proofs.records.start.Reads as start-reads
+use Rattle.steps.proofs.records.tick.Reads as tick-reads
+
+-- src/records.rt:250:28
+enum-told : tie.Need-enum-told
+enum-told c = search needs
+
+-- src/records.rt:251:26
+enum-told-2 : tie.Need-enum-told-2
+enum-told-2 c = search needs
+
+-- src/records.rt:251:26
+start-requires : tie.Need-start-requires
+start-requires c κs = search needs
+
+-- src/records.rt:252:25
+enum-told-3 : tie.Need-enum-told-3
+enum-told-3 c = search needs
+
+-- src/records.rt:252:25
+send-requires : tie.Need-send-requires
+send-requires c κs = search needs
+
+-- src/records.rt:253:28
+enum-told-4 : tie.Need-enum-told-4
+enum-told-4 c = search needs
+
+-- src/records.rt:253:28
+request-requires : tie.Need-request-requires
+request-requires c κs = search needs
+
+-- src/records.rt:254:28
+enum-told-5 : tie.Need-enum-told-5
+enum-told-5 c = search needs
+
+-- src/records.rt:254:28
+deliver-requires : tie.Need-deliver-requires
+deliver-requires c κs = search needs
+
+-- src/records.rt:255:25
+enum-told-6 : tie.Need-enum-told-6
+enum-told-6 c = search needs
+
+-- src/records.rt:255:25
+rest-requires : tie.Need-rest-requires
+rest-requires c κs = search needs
+
+-- src/records.rt:256:25
+enum-told-7 : tie.Need-enum-told-7
+enum-told-7 c = search needs
+
+-- src/records.rt:256:25
+tick-requires : tie.Need-tick-requires
+tick-requires c κs = search needs
+
+-- src/records.rt:257:28
+enum-told-8 : tie.Need-enum-told-8
+enum-told-8 c = search needs
+
+-- src/records.rt:257:28
+release-requires : tie.Need-release-requires
+release-requires c κs = search needs
+
+-- src/records.rt:245:1
+returns : tie.Need-returns
+returns c = ?
+
+-- src/records.rt:245:1
+returns-2 : tie.Need-returns-2
+returns-2 c = ?
+
+-- src/records.rt:245:1
+returns-3 : tie.Need-returns-3
+returns-3 c = ?
+
+-- src/records.rt:245:1
+returns-4 : tie.Need-returns-4
+returns-4 c = ?
+
+-- src/records.rt:245:1
+returns-5 : tie.Need-returns-5
+returns-5 c = ?
+
+-- src/records.rt:245:1
+returns-6 : tie.Need-returns-6
+returns-6 c = ?
+
+-- src/records.rt:245:1
+returns-7 : tie.Need-returns-7
+returns-7 c = ?
+
+-- src/records.rt:245:1
+returns-8 : tie.Need-returns-8
+returns-8 c = ?
+
+pub record-rule-spec : {M : Type 1} → statement M
+record-rule-spec =
+    tie.close
+    (tie.spec
+    enum-told
+    enum-told-2
+    start-requires
+    enum-told-3
+    send-requires
+    enum-told-4
+    request-requires
+    enum-told-5
+    deliver-requires
+    enum-told-6
+    rest-requires
+    enum-told-7
+    tick-requires
+    enum-told-8
+    release-requires
+    returns
+    returns-2
+    returns-3
+    returns-4
+    returns-5
+    returns-6
+    returns-7
+    returns-8)
