@@ -1,3 +1,4 @@
+-- `place_refusal` meets its contract, by the action.
 use borrow.Author.Needs.{needs}
 use Rattle.steps.proofs.place_refusal.Statement.{statement}
 use Rattle.steps.proofs.place_refusal.Tie as tie
@@ -6,113 +7,86 @@ use Rattle.steps.proofs.place_refusal.Lts as lts
 use Rattle.steps.proofs.slot_checked.Reads as slot-checked-reads
 use Rattle.steps.proofs.unit_checked.Reads as unit-checked-reads
 
--- src/lib.rt:58:28
 enum-told : tie.Need-enum-told
 enum-told c = search needs
 
--- src/lib.rt:59:26
 enum-told-2 : tie.Need-enum-told-2
 enum-told-2 c = search needs
 
--- src/lib.rt:59:26
 unit-checked-requires : tie.Need-unit-checked-requires
 unit-checked-requires c κs = search needs
 
--- src/lib.rt:60:74
 enum-told-3 : tie.Need-enum-told-3
 enum-told-3 c = search needs
 
--- src/lib.rt:60:74
 slot-checked-requires : tie.Need-slot-checked-requires
 slot-checked-requires c κs = search needs
 
--- src/lib.rt:60:49
 unit-checked-requires-2 : tie.Need-unit-checked-requires-2
 unit-checked-requires-2 c κs = search needs
 
--- src/lib.rt:60:25
 unit-checked-requires-3 : tie.Need-unit-checked-requires-3
 unit-checked-requires-3 c κs = search needs
 
--- src/lib.rt:61:52
 enum-told-4 : tie.Need-enum-told-4
 enum-told-4 c = search needs
 
--- src/lib.rt:61:52
 slot-checked-requires-2 : tie.Need-slot-checked-requires-2
 slot-checked-requires-2 c κs = search needs
 
--- src/lib.rt:61:28
 unit-checked-requires-4 : tie.Need-unit-checked-requires-4
 unit-checked-requires-4 c κs = search needs
 
--- src/lib.rt:62:28
 enum-told-5 : tie.Need-enum-told-5
 enum-told-5 c = search needs
 
--- src/lib.rt:62:28
 slot-checked-requires-3 : tie.Need-slot-checked-requires-3
 slot-checked-requires-3 c κs = search needs
 
--- src/lib.rt:63:25
 enum-told-6 : tie.Need-enum-told-6
 enum-told-6 c = search needs
 
--- src/lib.rt:63:25
 unit-checked-requires-5 : tie.Need-unit-checked-requires-5
 unit-checked-requires-5 c κs = search needs
 
--- src/lib.rt:64:25
 enum-told-7 : tie.Need-enum-told-7
 enum-told-7 c = search needs
 
--- src/lib.rt:64:25
 unit-checked-requires-6 : tie.Need-unit-checked-requires-6
 unit-checked-requires-6 c κs = search needs
 
--- src/lib.rt:65:52
 enum-told-8 : tie.Need-enum-told-8
 enum-told-8 c = search needs
 
--- src/lib.rt:65:52
 slot-checked-requires-4 : tie.Need-slot-checked-requires-4
 slot-checked-requires-4 c κs = search needs
 
--- src/lib.rt:65:28
 unit-checked-requires-7 : tie.Need-unit-checked-requires-7
 unit-checked-requires-7 c κs = search needs
 
--- src/lib.rt:54:1
 returns : tie.Need-returns
 returns c = search needs
 
--- src/lib.rt:54:1
 returns-2 : tie.Need-returns-2
-returns-2 c = ?
+returns-2 c = simp (c .unit-checked .ensures, c .before .enum-told2 .given .1)
 
--- src/lib.rt:54:1
 returns-3 : tie.Need-returns-3
-returns-3 c = ?
+returns-3 c = simp (c .unit-checked3 .ensures, c .before .unit-checked2 .ensures, c .before .before .slot-checked .ensures, c .before .before .before .enum-told3 .given .1)
 
--- src/lib.rt:54:1
 returns-4 : tie.Need-returns-4
-returns-4 c = ?
+returns-4 c = simp (c .unit-checked4 .ensures, c .before .slot-checked2 .ensures, c .before .before .enum-told4 .given .1)
 
--- src/lib.rt:54:1
 returns-5 : tie.Need-returns-5
-returns-5 c = ?
+returns-5 c = simp (c .slot-checked3 .ensures, c .before .enum-told5 .given .1)
 
--- src/lib.rt:54:1
 returns-6 : tie.Need-returns-6
-returns-6 c = ?
+returns-6 c = simp (c .unit-checked5 .ensures, c .before .enum-told6 .given .1)
 
--- src/lib.rt:54:1
 returns-7 : tie.Need-returns-7
-returns-7 c = ?
+returns-7 c = simp (c .unit-checked6 .ensures, c .before .enum-told7 .given .1)
 
--- src/lib.rt:54:1
 returns-8 : tie.Need-returns-8
-returns-8 c = ?
+returns-8 c = simp (c .unit-checked7 .ensures, c .before .slot-checked4 .ensures, c .before .before .enum-told8 .given .1)
 
 pub place-refusal-spec : {M : Type 1} → statement M
 place-refusal-spec =

@@ -1,3 +1,4 @@
+-- `deliver` meets its contract, by the slot's kind.
 use borrow.Author.Needs.{needs}
 use Rattle.steps.proofs.records.deliver.Statement.{statement}
 use Rattle.steps.proofs.records.deliver.Tie as tie
@@ -9,69 +10,53 @@ use Rattle.steps.proofs.records.supplied.Reads as supplied-reads
 use Rattle.steps.proofs.records.take_return.Reads as take-return-reads
 use Rattle.steps.proofs.records.worked.Reads as worked-reads
 
--- src/records.rt:187:24
 enum-told : tie.Need-enum-told
 enum-told c = search needs
 
--- src/records.rt:188:38
 enum-told-2 : tie.Need-enum-told-2
 enum-told-2 c = search needs
 
--- src/records.rt:188:38
 worked-requires : tie.Need-worked-requires
 worked-requires c κs = search needs
 
--- src/records.rt:188:59
 blank-slot-requires : tie.Need-blank-slot-requires
 blank-slot-requires c κs = search needs
 
--- src/records.rt:189:25
 enum-told-3 : tie.Need-enum-told-3
 enum-told-3 c = search needs
 
--- src/records.rt:189:25
 take-return-requires : tie.Need-take-return-requires
 take-return-requires c κs = search needs
 
--- src/records.rt:190:26
 enum-told-4 : tie.Need-enum-told-4
 enum-told-4 c = search needs
 
--- src/records.rt:190:26
 grant-requires : tie.Need-grant-requires
 grant-requires c κs = search needs
 
--- src/records.rt:191:40
 enum-told-5 : tie.Need-enum-told-5
 enum-told-5 c = search needs
 
--- src/records.rt:191:40
 supplied-requires : tie.Need-supplied-requires
 supplied-requires c κs = search needs
 
--- src/records.rt:191:63
 blank-slot-requires-2 : tie.Need-blank-slot-requires-2
 blank-slot-requires-2 c κs = search needs
 
--- src/records.rt:181:1
 returns : tie.Need-returns
 returns c = search needs
 
--- src/records.rt:181:1
 returns-2 : tie.Need-returns-2
-returns-2 c = ?
+returns-2 c = simp (c .blank-slot .ensures, c .before .worked .ensures, c .before .before .enum-told2 .given .1)
 
--- src/records.rt:181:1
 returns-3 : tie.Need-returns-3
-returns-3 c = ?
+returns-3 c = simp (c .take-return .ensures, c .before .enum-told3 .given .1)
 
--- src/records.rt:181:1
 returns-4 : tie.Need-returns-4
-returns-4 c = ?
+returns-4 c = simp (c .grant .ensures, c .before .enum-told4 .given .1)
 
--- src/records.rt:181:1
 returns-5 : tie.Need-returns-5
-returns-5 c = ?
+returns-5 c = simp (c .blank-slot2 .ensures, c .before .supplied .ensures, c .before .before .enum-told5 .given .1)
 
 pub deliver-spec : {M : Type 1} → statement M
 deliver-spec =

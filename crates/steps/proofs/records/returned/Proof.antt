@@ -1,3 +1,4 @@
+-- `returned` meets its contract, by the receiver's state.
 use borrow.Author.Needs.{needs}
 use Rattle.steps.proofs.records.returned.Statement.{statement}
 use Rattle.steps.proofs.records.returned.Tie as tie
@@ -5,41 +6,32 @@ use Rattle.steps.proofs.records.returned.Reads as reads
 use Rattle.steps.proofs.records.returned.Lts as lts
 use Rattle.steps.proofs.records.waiting_with.Reads as waiting-with-reads
 
--- src/records.rt:136:15
 add-sum : tie.Need-add-sum
 add-sum c = search needs
 
--- src/records.rt:138:24
 enum-told : tie.Need-enum-told
 enum-told c = search needs
 
--- src/records.rt:138:24
 waiting-with-requires : tie.Need-waiting-with-requires
 waiting-with-requires c κs = search needs
 
--- src/records.rt:140:17
 enum-told-2 : tie.Need-enum-told-2
 enum-told-2 c = search needs
 
--- src/records.rt:144:27
 enum-told-3 : tie.Need-enum-told-3
 enum-told-3 c = search needs
 
--- src/records.rt:144:27
 waiting-with-requires-2 : tie.Need-waiting-with-requires-2
 waiting-with-requires-2 c κs = search needs
 
--- src/records.rt:131:1
 returns : tie.Need-returns
-returns c = ?
+returns c = simp (c .waiting-with .ensures, c .before .enum-told .given .1)
 
--- src/records.rt:131:1
 returns-2 : tie.Need-returns-2
-returns-2 c = ?
+returns-2 c = simp (c .enum-told2 .given .1)
 
--- src/records.rt:131:1
 returns-3 : tie.Need-returns-3
-returns-3 c = ?
+returns-3 c = simp (c .waiting-with2 .ensures, c .before .enum-told3 .given .1)
 
 pub returned-spec : {M : Type 1} → statement M
 returned-spec =
