@@ -1,1 +1,3 @@
 pub mod Flags
+pub mod Judging
+pub mod Clamping
