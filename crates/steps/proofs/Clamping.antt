@@ -20,7 +20,7 @@ use Rattle.rules.specs.declared.StepRecord.{StepRecord}
 use Rattle.rules.specs.declared.Outcome.{Outcome}
 use Rattle.rules.proofs.FactLaws.{asked}
 use Rattle.rules.proofs.SoundLaws.{slot-row, parent-below}
-use Rattle.steps.specs.Places.{unitBy}
+use Rattle.steps.specs.Fields.{unitBy}
 use Rattle.steps.proofs.Judging.{judge-map, judge-same}
 
 -- the number that refuses the place, or 0

@@ -7,7 +7,7 @@ ghost use lib.Dec.{eqb};
 ghost use Rattle.rules.specs.Facts.{check, below, judge};
 ghost use Rattle.rules.specs.Sound.{sound};
 ghost use Rattle.rules.specs.Steps.{actionOf, slotOf, placeChecks, soundStep};
-ghost use Rattle.steps.specs.Places.{unitBy};
+ghost use Rattle.steps.specs.Fields.{unitBy};
 ghost use Rattle.rules.specs.declared.Effect.the-variants.{Refused};
 use rules::{Action, Board, Effect, Outcome, StepRecord};
 use records::record_rule;
@@ -119,7 +119,7 @@ fn unless_refused(k: u16, e: Effect) -> Effect
 }
 
 // A step on a board known to be sound. A refused place is clamped, so that its records can be read and left unused.
-pub(crate) fn sound_step(b: Board, r: StepRecord) -> Outcome
+pub(crate) fn sound_step(mut b: Board, r: StepRecord) -> Outcome
     requires { ⌜ sound b ≡ true ⌝ }
     ensures { λ o. ⌜ o ≡ soundStep b r ⌝ }
 {
@@ -132,27 +132,26 @@ pub(crate) fn sound_step(b: Board, r: StepRecord) -> Outcome
     let k = place_refusal(b.n, b.m, r, a);
     let e = unless_refused(k, record_rule(b.debt, b.delay, r, x, p, y, a));
     let mut answer: u16 = 0;
-    let mut c = b;
     match e {
         Effect::Refused(k) => {
             answer = k;
         }
         Effect::OnUnit(x, debt) => {
-            c.units[u] = x;
-            c.debt = debt;
+            b.units[u] = x;
+            b.debt = debt;
         }
         Effect::OnSlot(y, debt) => {
-            c.slots[s] = y;
-            c.debt = debt;
+            b.slots[s] = y;
+            b.debt = debt;
         }
         Effect::OnBoth(x, y, debt) => {
-            c.units[u] = x;
-            c.slots[s] = y;
-            c.debt = debt;
+            b.units[u] = x;
+            b.slots[s] = y;
+            b.debt = debt;
         }
     }
     Outcome {
         answer,
-        board: c,
+        board: b,
     }
 }
