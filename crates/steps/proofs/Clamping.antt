@@ -1,14 +1,13 @@
 -- Clamped places do no harm on a sound board: where the place checks pass, the clamp is the identity; where one fails, the records are not used.
 use mathlib.Core.Path.{_≡_, refl, sym, ap, _∙_}
-use mathlib.Core.Bool.{Bool, cond}
-use mathlib.Core.List.{List}
+use mathlib.Core.Bool.{cond}
 use Prim.Native.Nat.{ℕ, min, _<_, _≤_}
 use native.Mathlib.Omega.{arith}
 use lib.Dec.{eqb}
 use Rattle.rules.specs.Facts.{Claims, judge}
 use Rattle.rules.specs.Words.{unitAt, slotAt, parentAt}
-use Rattle.rules.specs.Sound.{Sound, sound, kindRow}
-use Rattle.rules.specs.Steps.{actionOf, unitOf, slotOf, placeChecks, recordRule, effectBy, effect, applied, soundStep}
+use Rattle.rules.specs.Sound.{Sound, kindRow}
+use Rattle.rules.specs.Steps.{unitOf, slotOf, placeChecks, recordRule, effectBy, applied}
 use Rattle.rules.specs.declared.Action.{Action}
 use Rattle.rules.specs.declared.Action.the-variants.{Unknown, Start, Send, Request as RequestStep, Deliver, Rest, Tick, Release}
 use Rattle.rules.specs.declared.Kind.{Kind}
@@ -17,7 +16,6 @@ use Rattle.rules.specs.declared.Effect.{Effect}
 use Rattle.rules.specs.declared.Effect.the-variants.{Refused}
 use Rattle.rules.specs.declared.Board.{Board}
 use Rattle.rules.specs.declared.StepRecord.{StepRecord}
-use Rattle.rules.specs.declared.Outcome.{Outcome}
 use Rattle.rules.proofs.FactLaws.{asked}
 use Rattle.rules.proofs.SoundLaws.{slot-row, parent-below}
 use Rattle.steps.specs.Fields.{unitBy}
@@ -100,5 +98,5 @@ module _ (b : Board) (h : Sound b) where
         ap (applied b u s) judged
         ∙ judge-map (applied b u s) Refused cs (ruleAt b r a u s)
         ∙ judge-same (λ j. record { answer = j; board = b }) cs (applied b u s (ruleAt b r a u s)) (applied b (unitOf b r a) (slotOf r a) (ruleAt b r a (unitOf b r a) (slotOf r a)))
-          (λ p. ap (λ (i : ℕ). applied b i s (ruleAt b r a i s)) (same-unit p) ∙ ap (λ (j : ℕ). applied b (unitOf b r a) j (ruleAt b r a (unitOf b r a) j)) (same-slot p))
+        (λ p. ap (λ (i : ℕ). applied b i s (ruleAt b r a i s)) (same-unit p) ∙ ap (λ (j : ℕ). applied b (unitOf b r a) j (ruleAt b r a (unitOf b r a) j)) (same-slot p))
         ∙ sym (judge-map (applied b (unitOf b r a) (slotOf r a)) Refused cs (ruleAt b r a (unitOf b r a) (slotOf r a)))

@@ -1,17 +1,22 @@
 // A step by value: on a board known to be sound, and on any board.
 ghost use mathlib.Core.Path.{_≡_};
-ghost use mathlib.Core.List.{[], _∷_};
 ghost use mathlib.Core.Bool.{true, cond};
-ghost use Prim.Native.Nat.{min};
 ghost use lib.Dec.{eqb};
-ghost use Rattle.rules.specs.Facts.{check, below, judge};
 ghost use Rattle.rules.specs.Sound.{sound};
-ghost use Rattle.rules.specs.Steps.{actionOf, slotOf, placeChecks, soundStep};
-ghost use Rattle.steps.specs.Fields.{unitBy};
+ghost use Rattle.rules.specs.Steps.{actionOf, soundStep};
 ghost use Rattle.rules.specs.declared.Effect.the-variants.{Refused};
-use rules::{Action, Board, Effect, Outcome, StepRecord};
+use places::clamped;
+use places::place_refusal;
+use places::slot_of;
+use places::unit_of;
 use records::record_rule;
+use rules::Action;
+use rules::Board;
+use rules::Effect;
+use rules::Outcome;
+use rules::StepRecord;
 
+mod places;
 mod records;
 
 // A step's kind by its number; every number outside 1 to 7 is unknown.
@@ -28,84 +33,6 @@ pub(crate) fn action(kind: u16) -> Action
         7 => Action::Release,
         _ => Action::Unknown,
     }
-}
-
-// 13 where u is no unit in use, else what comes next.
-fn unit_checked(n: u16, u: u16, next: u16) -> u16
-    ensures { λ k. ⌜ k ≡ judge (λ j. j) (check (below u n) 13 ∷ []) next ⌝ }
-{
-    if u < n {
-        return next;
-    }
-    13
-}
-
-// 14 where s is no slot in use.
-fn slot_checked(m: u16, s: u16) -> u16
-    ensures { λ k. ⌜ k ≡ judge (λ j. j) (check (below s m) 14 ∷ []) 0 ⌝ }
-{
-    if s < m {
-        return 0;
-    }
-    14
-}
-
-// The head of each bracket: 0, or the number that refuses the unit or the slot.
-fn place_refusal(n: u16, m: u16, r: StepRecord, a: Action) -> u16
-    ensures { λ k. ⌜ k ≡ judge (λ j. j) (placeChecks n m r a) 0 ⌝ }
-{
-    match a {
-        Action::Unknown => 0,
-        Action::Start => unit_checked(n, r.unit, 0),
-        Action::Send => unit_checked(n, r.unit, unit_checked(n, r.other, slot_checked(m, r.slot))),
-        Action::Request => unit_checked(n, r.unit, slot_checked(m, r.slot)),
-        Action::Deliver => slot_checked(m, r.slot),
-        Action::Rest => unit_checked(n, r.unit, 0),
-        Action::Tick => unit_checked(n, r.unit, 0),
-        Action::Release => unit_checked(n, r.unit, slot_checked(m, r.slot)),
-    }
-}
-
-// The slot that a step may change.
-fn slot_of(r: StepRecord, a: Action) -> u16
-    ensures { λ s. ⌜ s ≡ slotOf r a ⌝ }
-{
-    match a {
-        Action::Unknown => 0,
-        Action::Start => 0,
-        Action::Send => r.slot,
-        Action::Request => r.slot,
-        Action::Deliver => r.slot,
-        Action::Rest => 0,
-        Action::Tick => 0,
-        Action::Release => r.slot,
-    }
-}
-
-// The unit that a step may change: a delivery's is the receiver.
-fn unit_of(r: StepRecord, to: u16, a: Action) -> u16
-    ensures { λ u. ⌜ u ≡ unitBy r to a ⌝ }
-{
-    match a {
-        Action::Unknown => 0,
-        Action::Start => r.unit,
-        Action::Send => r.unit,
-        Action::Request => r.unit,
-        Action::Deliver => to,
-        Action::Rest => r.unit,
-        Action::Tick => r.unit,
-        Action::Release => r.unit,
-    }
-}
-
-// An index that an array has: a number past the end gives the last one.
-fn clamped(i: u16, last: u16) -> usize
-    ensures { λ k. ⌜ k ≡ min i last ⌝ }
-{
-    if i < last {
-        return i as usize;
-    }
-    last as usize
 }
 
 // The effect, unless the place was refused.
@@ -150,8 +77,5 @@ pub(crate) fn sound_step(mut b: Board, r: StepRecord) -> Outcome
             b.debt = debt;
         }
     }
-    Outcome {
-        answer,
-        board: b,
-    }
+    Outcome { answer, board: b }
 }

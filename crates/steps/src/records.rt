@@ -8,10 +8,17 @@ ghost use Rattle.rules.specs.Steps.{grantFits, deliverChecks, worked, returned,
 ghost use Rattle.rules.specs.Steps.{restChecks, restEffect, tickChecks, tickEffect, releaseChecks, releaseEffect, recordRule};
 ghost use Rattle.rules.specs.declared.Effect.the-variants.{Refused, OnSlot};
 ghost use Rattle.rules.specs.declared.Kind.the-variants.{Request as RequestKind, Supply};
-use rules::{Action, Effect, Kind, Slot, State, StepRecord, UnitRecord};
+use rules::Action;
+use rules::Effect;
+use rules::Kind;
+use rules::Slot;
+use rules::State;
+use rules::StepRecord;
+use rules::UnitRecord;
 
 // The weight that a start or a grant brings into the board, and the most that the debt may be.
 const GRANT: u64 = 16777216;
+
 const CEILING: u64 = 1099511627776;
 
 fn blank_unit() -> UnitRecord
@@ -238,11 +245,23 @@ fn release(debt: u64, u: u16, parent: u16, x: UnitRecord, y: Slot) -> Effect
     if !kind.is_empty() {
         return Effect::Refused(34);
     }
-    Effect::OnBoth(blank_unit(), message(Kind::Return, u, parent, x.weight), debt)
+    Effect::OnBoth(
+        blank_unit(),
+        message(Kind::Return, u, parent, x.weight),
+        debt,
+    )
 }
 
 // What a step does on the unit x, whose parent is p, and the slot y.
-pub(crate) fn record_rule(debt: u64, delay: u16, r: StepRecord, x: UnitRecord, p: u16, y: Slot, a: Action) -> Effect
+pub(crate) fn record_rule(
+    debt: u64,
+    delay: u16,
+    r: StepRecord,
+    x: UnitRecord,
+    p: u16,
+    y: Slot,
+    a: Action,
+) -> Effect
     requires { ⌜ (x .weight + y .weight ≤ debt) × (debt ≤ ceiling) ⌝ }
     ensures { λ e. ⌜ e ≡ recordRule debt delay r x p y a ⌝ }
 {

@@ -10,15 +10,6 @@ use Rattle.steps.proofs.Clamping.{clamped-step}
 use borrow.Author.Needs.{needs}
 use Rattle.steps.proofs.sound_step.Statement.{statement}
 use Rattle.steps.proofs.sound_step.Tie as tie
-use Rattle.steps.proofs.sound_step.Reads as reads
-use Rattle.steps.proofs.sound_step.Lts as lts
-use Rattle.steps.proofs.action.Reads as action-reads
-use Rattle.steps.proofs.clamped.Reads as clamped-reads
-use Rattle.steps.proofs.place_refusal.Reads as place-refusal-reads
-use Rattle.steps.proofs.records.record_rule.Reads as record-rule-reads
-use Rattle.steps.proofs.slot_of.Reads as slot-of-reads
-use Rattle.steps.proofs.unit_of.Reads as unit-of-reads
-use Rattle.steps.proofs.unless_refused.Reads as unless-refused-reads
 
 action-requires : tie.Need-action-requires
 action-requires c κs = search needs
@@ -115,10 +106,10 @@ done c e f =
     let g = d .before .before .before in
     ap (applied b (d .clamped2 .result) (g .clamped .result)) (sym f)
     ∙ clamped-step b (sound-claims b (start d .pre)) r (g .before .before .action .result) (d .clamped2 .result) (g .clamped .result)
-      (g .clamped .ensures ∙ ap (λ (j : ℕ). min j 255) (g .before .slot-of .ensures))
-      (d .clamped2 .ensures ∙ ap (λ (j : ℕ). min j 63) (d .before .unit-of .ensures))
-      (c .before .before .place-refusal .result) (c .before .record-rule .result) (c .unless-refused .result)
-      (c .before .before .place-refusal .ensures) (c .before .record-rule .ensures) (c .unless-refused .ensures)
+    (g .clamped .ensures ∙ ap (λ (j : ℕ). min j 255) (g .before .slot-of .ensures))
+    (d .clamped2 .ensures ∙ ap (λ (j : ℕ). min j 63) (d .before .unit-of .ensures))
+    (c .before .before .place-refusal .result) (c .before .record-rule .result) (c .unless-refused .result)
+    (c .before .before .place-refusal .ensures) (c .before .record-rule .ensures) (c .unless-refused .ensures)
     ∙ ap (λ (a : Action). applied b (unitOf b r a) (slotOf r a) (effectBy b r a)) (g .before .before .action .ensures)
 
 returns : tie.Need-returns

@@ -2,8 +2,6 @@
 use borrow.Author.Tests.{eq-eqb, ne-eqb}
 use Rattle.steps.proofs.unless_refused.Statement.{statement}
 use Rattle.steps.proofs.unless_refused.Tie as tie
-use Rattle.steps.proofs.unless_refused.Reads as reads
-use Rattle.steps.proofs.unless_refused.Lts as lts
 
 returns : tie.Need-returns
 returns c = simp (eq-eqb _ _ (c .if1 .taken))

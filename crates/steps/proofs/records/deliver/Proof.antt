@@ -2,13 +2,6 @@
 use borrow.Author.Needs.{needs}
 use Rattle.steps.proofs.records.deliver.Statement.{statement}
 use Rattle.steps.proofs.records.deliver.Tie as tie
-use Rattle.steps.proofs.records.deliver.Reads as reads
-use Rattle.steps.proofs.records.deliver.Lts as lts
-use Rattle.steps.proofs.records.blank_slot.Reads as blank-slot-reads
-use Rattle.steps.proofs.records.grant.Reads as grant-reads
-use Rattle.steps.proofs.records.supplied.Reads as supplied-reads
-use Rattle.steps.proofs.records.take_return.Reads as take-return-reads
-use Rattle.steps.proofs.records.worked.Reads as worked-reads
 
 enum-told : tie.Need-enum-told
 enum-told c = search needs

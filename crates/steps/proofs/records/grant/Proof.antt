@@ -3,9 +3,6 @@ use borrow.Author.Tests.{le-leb, lt-leb}
 use borrow.Author.Needs.{needs}
 use Rattle.steps.proofs.records.grant.Statement.{statement}
 use Rattle.steps.proofs.records.grant.Tie as tie
-use Rattle.steps.proofs.records.grant.Reads as reads
-use Rattle.steps.proofs.records.grant.Lts as lts
-use Rattle.steps.proofs.records.message.Reads as message-reads
 
 add-if1 : tie.Need-add-if1
 add-if1 c = search needs

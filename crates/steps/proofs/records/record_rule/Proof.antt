@@ -3,15 +3,6 @@ use Rattle.rules.specs.Steps.{recordRule}
 use borrow.Author.Needs.{needs}
 use Rattle.steps.proofs.records.record_rule.Statement.{statement}
 use Rattle.steps.proofs.records.record_rule.Tie as tie
-use Rattle.steps.proofs.records.record_rule.Reads as reads
-use Rattle.steps.proofs.records.record_rule.Lts as lts
-use Rattle.steps.proofs.records.deliver.Reads as deliver-reads
-use Rattle.steps.proofs.records.release.Reads as release-reads
-use Rattle.steps.proofs.records.request.Reads as request-reads
-use Rattle.steps.proofs.records.rest.Reads as rest-reads
-use Rattle.steps.proofs.records.send.Reads as send-reads
-use Rattle.steps.proofs.records.start.Reads as start-reads
-use Rattle.steps.proofs.records.tick.Reads as tick-reads
 
 enum-told : tie.Need-enum-told
 enum-told c = search needs

@@ -7,12 +7,6 @@ use Rattle.steps.proofs.Flags.{said-yes, said-no}
 use borrow.Author.Needs.{needs}
 use Rattle.steps.proofs.records.release.Statement.{statement}
 use Rattle.steps.proofs.records.release.Tie as tie
-use Rattle.steps.proofs.records.release.Reads as reads
-use Rattle.steps.proofs.records.release.Lts as lts
-use Rattle.rules.proofs.Kind.is_empty.Reads as is-empty-reads
-use Rattle.rules.proofs.State.is_waiting.Reads as is-waiting-reads
-use Rattle.steps.proofs.records.blank_unit.Reads as blank-unit-reads
-use Rattle.steps.proofs.records.message.Reads as message-reads
 
 is-waiting-requires : tie.Need-is-waiting-requires
 is-waiting-requires c κs = search needs

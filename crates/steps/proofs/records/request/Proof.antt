@@ -7,11 +7,6 @@ use Rattle.steps.proofs.Flags.{said-yes, said-no}
 use borrow.Author.Needs.{needs}
 use Rattle.steps.proofs.records.request.Statement.{statement}
 use Rattle.steps.proofs.records.request.Tie as tie
-use Rattle.steps.proofs.records.request.Reads as reads
-use Rattle.steps.proofs.records.request.Lts as lts
-use Rattle.rules.proofs.Kind.is_empty.Reads as is-empty-reads
-use Rattle.rules.proofs.State.is_active.Reads as is-active-reads
-use Rattle.steps.proofs.records.message.Reads as message-reads
 
 is-active-requires : tie.Need-is-active-requires
 is-active-requires c κs = search needs

@@ -7,11 +7,6 @@ use Rattle.steps.proofs.Flags.{said-yes, said-no}
 use borrow.Author.Needs.{needs}
 use Rattle.steps.proofs.records.rest.Statement.{statement}
 use Rattle.steps.proofs.records.rest.Tie as tie
-use Rattle.steps.proofs.records.rest.Reads as reads
-use Rattle.steps.proofs.records.rest.Lts as lts
-use Rattle.rules.proofs.State.is_active.Reads as is-active-reads
-use Rattle.steps.proofs.records.blank_unit.Reads as blank-unit-reads
-use Rattle.steps.proofs.records.waiting_with.Reads as waiting-with-reads
 
 is-active-requires : tie.Need-is-active-requires
 is-active-requires c κs = search needs

@@ -2,9 +2,6 @@
 use borrow.Author.Needs.{needs}
 use Rattle.steps.proofs.records.returned.Statement.{statement}
 use Rattle.steps.proofs.records.returned.Tie as tie
-use Rattle.steps.proofs.records.returned.Reads as reads
-use Rattle.steps.proofs.records.returned.Lts as lts
-use Rattle.steps.proofs.records.waiting_with.Reads as waiting-with-reads
 
 add-sum : tie.Need-add-sum
 add-sum c = search needs

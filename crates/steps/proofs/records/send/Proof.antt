@@ -7,12 +7,6 @@ use Rattle.rules.specs.Words.{isActive, isEmpty}
 use Rattle.steps.proofs.Flags.{said-yes, said-no}
 use Rattle.steps.proofs.records.send.Statement.{statement}
 use Rattle.steps.proofs.records.send.Tie as tie
-use Rattle.steps.proofs.records.send.Reads as reads
-use Rattle.steps.proofs.records.send.Lts as lts
-use Rattle.rules.proofs.Kind.is_empty.Reads as is-empty-reads
-use Rattle.rules.proofs.State.is_active.Reads as is-active-reads
-use Rattle.rules.proofs.UnitRecord.share.Reads as share-reads
-use Rattle.steps.proofs.records.message.Reads as message-reads
 
 is-active-requires : tie.Need-is-active-requires
 is-active-requires c κs = search needs

@@ -2,8 +2,6 @@
 use borrow.Author.Tests.{eq-eqb, ne-eqb}
 use Rattle.steps.proofs.records.start.Statement.{statement}
 use Rattle.steps.proofs.records.start.Tie as tie
-use Rattle.steps.proofs.records.start.Reads as reads
-use Rattle.steps.proofs.records.start.Lts as lts
 
 returns : tie.Need-returns
 returns c = simp (ne-eqb _ _ (c .if1 .taken))

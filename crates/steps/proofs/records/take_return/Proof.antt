@@ -3,10 +3,6 @@ use borrow.Author.Tests.{eq-eqb, ne-eqb}
 use borrow.Author.Needs.{needs}
 use Rattle.steps.proofs.records.take_return.Statement.{statement}
 use Rattle.steps.proofs.records.take_return.Tie as tie
-use Rattle.steps.proofs.records.take_return.Reads as reads
-use Rattle.steps.proofs.records.take_return.Lts as lts
-use Rattle.steps.proofs.records.blank_slot.Reads as blank-slot-reads
-use Rattle.steps.proofs.records.returned.Reads as returned-reads
 
 blank-slot-requires : tie.Need-blank-slot-requires
 blank-slot-requires c κs = search needs

@@ -7,9 +7,6 @@ use Rattle.steps.proofs.Flags.{said-yes, said-no}
 use borrow.Author.Needs.{needs}
 use Rattle.steps.proofs.records.tick.Statement.{statement}
 use Rattle.steps.proofs.records.tick.Tie as tie
-use Rattle.steps.proofs.records.tick.Reads as reads
-use Rattle.steps.proofs.records.tick.Lts as lts
-use Rattle.rules.proofs.State.is_waiting.Reads as is-waiting-reads
 
 is-waiting-requires : tie.Need-is-waiting-requires
 is-waiting-requires c κs = search needs

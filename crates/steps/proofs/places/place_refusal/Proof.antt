@@ -1,11 +1,7 @@
 -- `place_refusal` meets its contract, by the action.
 use borrow.Author.Needs.{needs}
-use Rattle.steps.proofs.place_refusal.Statement.{statement}
-use Rattle.steps.proofs.place_refusal.Tie as tie
-use Rattle.steps.proofs.place_refusal.Reads as reads
-use Rattle.steps.proofs.place_refusal.Lts as lts
-use Rattle.steps.proofs.slot_checked.Reads as slot-checked-reads
-use Rattle.steps.proofs.unit_checked.Reads as unit-checked-reads
+use Rattle.steps.proofs.places.place_refusal.Statement.{statement}
+use Rattle.steps.proofs.places.place_refusal.Tie as tie
 
 enum-told : tie.Need-enum-told
 enum-told c = search needs

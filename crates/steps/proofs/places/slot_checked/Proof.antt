@@ -1,10 +1,8 @@
 -- `slot_checked` meets its contract: the test is the definition's.
 use Prim.Native.Nat.{suc-le-suc}
 use borrow.Author.Tests.{le-leb, lt-leb}
-use Rattle.steps.proofs.slot_checked.Statement.{statement}
-use Rattle.steps.proofs.slot_checked.Tie as tie
-use Rattle.steps.proofs.slot_checked.Reads as reads
-use Rattle.steps.proofs.slot_checked.Lts as lts
+use Rattle.steps.proofs.places.slot_checked.Statement.{statement}
+use Rattle.steps.proofs.places.slot_checked.Tie as tie
 
 returns : tie.Need-returns
 returns c = simp (le-leb _ _ (c .if1 .taken))
