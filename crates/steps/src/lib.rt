@@ -16,8 +16,13 @@ use rules::Effect;
 use rules::Outcome;
 use rules::StepRecord;
 
+mod delivering;
+mod made;
 mod places;
 mod records;
+mod requesting;
+mod resting;
+mod sending;
 
 // A step's kind by its number; every number outside 1 to 7 is unknown.
 pub(crate) fn action(kind: u16) -> Action

@@ -1,7 +1,7 @@
 -- `start` meets its contract: the test of the debt is the definition's.
 use borrow.Author.Tests.{eq-eqb, ne-eqb}
-use Rattle.steps.proofs.records.start.Statement.{statement}
-use Rattle.steps.proofs.records.start.Tie as tie
+use Rattle.steps.proofs.sending.start.Statement.{statement}
+use Rattle.steps.proofs.sending.start.Tie as tie
 
 returns : tie.Need-returns
 returns c = simp (ne-eqb _ _ (c .if1 .taken))

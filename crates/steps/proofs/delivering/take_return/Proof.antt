@@ -1,8 +1,8 @@
 -- `take_return` meets its contract: the test of the receiver is the definition's.
 use borrow.Author.Tests.{eq-eqb, ne-eqb}
 use borrow.Author.Needs.{needs}
-use Rattle.steps.proofs.records.take_return.Statement.{statement}
-use Rattle.steps.proofs.records.take_return.Tie as tie
+use Rattle.steps.proofs.delivering.take_return.Statement.{statement}
+use Rattle.steps.proofs.delivering.take_return.Tie as tie
 
 blank-slot-requires : tie.Need-blank-slot-requires
 blank-slot-requires c κs = search needs

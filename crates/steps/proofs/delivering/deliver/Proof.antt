@@ -1,7 +1,7 @@
 -- `deliver` meets its contract, by the slot's kind.
 use borrow.Author.Needs.{needs}
-use Rattle.steps.proofs.records.deliver.Statement.{statement}
-use Rattle.steps.proofs.records.deliver.Tie as tie
+use Rattle.steps.proofs.delivering.deliver.Statement.{statement}
+use Rattle.steps.proofs.delivering.deliver.Tie as tie
 
 enum-told : tie.Need-enum-told
 enum-told c = search needs

@@ -5,8 +5,8 @@ use borrow.Author.Tests.{eq-eqb, ne-eqb}
 use Rattle.rules.specs.Words.{isActive}
 use Rattle.steps.proofs.Flags.{said-yes, said-no}
 use borrow.Author.Needs.{needs}
-use Rattle.steps.proofs.records.rest.Statement.{statement}
-use Rattle.steps.proofs.records.rest.Tie as tie
+use Rattle.steps.proofs.resting.rest.Statement.{statement}
+use Rattle.steps.proofs.resting.rest.Tie as tie
 
 is-active-requires : tie.Need-is-active-requires
 is-active-requires c κs = search needs
@@ -27,13 +27,17 @@ sub-t9 : tie.Need-sub-t9
 sub-t9 c = search needs
 
 returns-3 : tie.Need-returns-3
-returns-3 c = let d = c .before .before in simp (c .before .blank-unit .ensures, active (d .before .before), d .before .if2 .left, eq-eqb _ _ (d .if3 .taken))
+returns-3 c =
+    let d = c .before .before in
+    simp (c .before .blank-unit .ensures, active (d .before .before), d .before .if2 .left, eq-eqb _ _ (d .if3 .taken))
 
 waiting-with-requires : tie.Need-waiting-with-requires
 waiting-with-requires c κs = search needs
 
 returns-4 : tie.Need-returns-4
-returns-4 c = simp (c .waiting-with .ensures, active (c .before .before .before), c .before .before .if2 .left, ne-eqb _ _ (c .before .if3 .left))
+returns-4 c =
+    let d = c .before in
+    simp (c .waiting-with .ensures, active (d .before .before), d .before .if2 .left, ne-eqb _ _ (d .if3 .left))
 
 pub rest-spec : {M : Type 1} → statement M
 rest-spec =

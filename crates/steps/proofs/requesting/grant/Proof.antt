@@ -1,8 +1,8 @@
 -- `grant` meets its contract: the test of the debt is the definition's.
 use borrow.Author.Tests.{le-leb, lt-leb}
 use borrow.Author.Needs.{needs}
-use Rattle.steps.proofs.records.grant.Statement.{statement}
-use Rattle.steps.proofs.records.grant.Tie as tie
+use Rattle.steps.proofs.requesting.grant.Statement.{statement}
+use Rattle.steps.proofs.requesting.grant.Tie as tie
 
 add-if1 : tie.Need-add-if1
 add-if1 c = search needs

@@ -1,7 +1,7 @@
 -- `returned` meets its contract, by the receiver's state.
 use borrow.Author.Needs.{needs}
-use Rattle.steps.proofs.records.returned.Statement.{statement}
-use Rattle.steps.proofs.records.returned.Tie as tie
+use Rattle.steps.proofs.delivering.returned.Statement.{statement}
+use Rattle.steps.proofs.delivering.returned.Tie as tie
 
 add-sum : tie.Need-add-sum
 add-sum c = search needs
