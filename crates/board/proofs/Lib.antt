@@ -1,0 +1,4 @@
+pub mod TestLaws
+pub mod JudgeLaws
+pub mod DepthLaws
+pub mod OpeningLaws
