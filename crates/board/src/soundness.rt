@@ -6,7 +6,14 @@ use rules::Slot;
 use rules::State;
 use rules::UnitRecord;
 ghost use mathlib.Core.Path.{_≡_};
-ghost use Rattle.rules.specs.Sound.{sound};
+ghost use mathlib.Core.Bool.{true, _&&_};
+ghost use mathlib.Core.List.{[]};
+ghost use Prim.Native.Nat.{ℕ};
+ghost use lib.ListN.{getD};
+ghost use lib.Dec.{eqb};
+ghost use Rattle.rules.specs.Facts.{tests, oneIf};
+ghost use Rattle.rules.specs.Sound.{kindRow, slotRow, stateRow, unitRow, parentRow, sizes, sound};
+ghost use Rattle.board.specs.Passes.{Lengths, boardWith, placeOf, pendingPlace, Counted};
 
 // What the pass over the slots gives: whether every slot fits, what the slots leave of the debt, and how many requests and supplies
 // are pending for each unit. The last count is that of the slots that pend for no unit.
@@ -16,108 +23,120 @@ struct SlotCount {
     pending: [u16; 65],
 }
 
-// ---- the facts of a single slot
-
-fn empty_fits(y: Slot) -> bool {
-    if y.from != 0 {
+// The tests of a row of facts, each as its definition has it.
+fn all4(a: bool, b: bool, c: bool, d: bool) -> bool
+    ensures { λ r. ⌜ r ≡ (a && (b && (c && (d && true)))) ⌝ }
+{
+    if !a {
         return false;
     }
-    if y.to != 0 {
+    if !b {
         return false;
     }
-    y.weight == 0
+    if !c {
+        return false;
+    }
+    d
 }
 
-fn work_fits(y: Slot, n: u16) -> bool {
-    if y.from >= n {
-        return false;
-    }
-    if y.to >= n {
-        return false;
-    }
-    y.weight >= 1
+fn all3(a: bool, b: bool, c: bool) -> bool
+    ensures { λ r. ⌜ r ≡ (a && (b && (c && true))) ⌝ }
+{
+    all4(true, a, b, c)
 }
 
-fn return_fits(y: Slot, n: u16, p: u16) -> bool {
-    if y.from < 1 {
+fn both(a: bool, b: bool) -> bool
+    ensures { λ r. ⌜ r ≡ (a && b) ⌝ }
+{
+    if !a {
         return false;
     }
-    if y.from >= n {
-        return false;
-    }
-    if y.to != p {
-        return false;
-    }
-    y.weight >= 1
+    b
 }
 
-fn request_fits(y: Slot, n: u16) -> bool {
-    if y.from >= n {
-        return false;
-    }
-    if y.to != 0 {
-        return false;
-    }
-    y.weight == 0
+// ---- a single slot
+
+fn empty_fits(y: Slot) -> bool
+    ensures { λ r. ⌜ r ≡ tests (kindRow (boardWith 0 0 0 []) y Kind.Empty) ⌝ }
+{
+    all3(y.from == 0, y.to == 0, y.weight == 0)
 }
 
-fn supply_fits(y: Slot, n: u16) -> bool {
-    if y.from != 0 {
-        return false;
-    }
-    if y.to >= n {
-        return false;
-    }
-    y.weight == 16_777_216
+fn work_fits(y: Slot, n: u16) -> bool
+    ensures { λ r. ⌜ r ≡ tests (kindRow (boardWith n 0 0 []) y Kind.Work) ⌝ }
+{
+    all3(y.from < n, y.to < n, y.weight >= 1)
 }
 
-// p is the parent of the unit that the slot is from.
-fn kind_fits(y: Slot, n: u16, p: u16) -> bool {
-    let k = y.kind;
-    match k {
-        Kind::Empty => empty_fits(y),
-        Kind::Work => work_fits(y, n),
-        Kind::Return => return_fits(y, n, p),
-        Kind::Request => request_fits(y, n),
-        Kind::Supply => supply_fits(y, n),
-    }
+fn return_fits(y: Slot, n: u16, parents: &[u16; 64]) -> bool
+    ensures { λ r. ⌜ r ≡ tests (kindRow (boardWith n 0 0 (now (parents .entry))) y Kind.Return) ⌝ }
+{
+    let p = parent_of(parents, y.from);
+    all4(y.from >= 1, y.from < n, y.to == p, y.weight >= 1)
 }
 
-// Slot j, of which m are in use, where `left` is left of the debt.
-fn slot_fits(y: Slot, j: usize, m: u16, n: u16, p: u16, left: u64) -> bool {
-    if left < y.weight {
-        return false;
-    }
-    if j < m as usize {
-        return kind_fits(y, n, p);
-    }
-    let k = y.kind;
-    if !k.is_empty() {
-        return false;
-    }
-    empty_fits(y)
+fn request_fits(y: Slot, n: u16) -> bool
+    ensures { λ r. ⌜ r ≡ tests (kindRow (boardWith n 0 0 []) y Kind.Request) ⌝ }
+{
+    all3(y.from < n, y.to == 0, y.weight == 0)
+}
+
+fn supply_fits(y: Slot, n: u16) -> bool
+    ensures { λ r. ⌜ r ≡ tests (kindRow (boardWith n 0 0 []) y Kind.Supply) ⌝ }
+{
+    all3(y.from == 0, y.to < n, y.weight == 16_777_216)
 }
 
 // A junk slot may be from any number; past the last entry the parent is 0.
-fn parent_of(parents: &[u16; 64], u: u16) -> u16 {
+fn parent_of(parents: &[u16; 64], u: u16) -> u16
+    ensures { λ r. ⌜ r ≡ getD (now (parents .entry)) u 0 ⌝ }
+{
     if u >= 64 {
         return 0;
     }
     parents[u as usize]
 }
 
+fn kind_fits(y: Slot, n: u16, parents: &[u16; 64]) -> bool
+    ensures { λ r. ⌜ r ≡ tests (kindRow (boardWith n 0 0 (now (parents .entry))) y (y .kind)) ⌝ }
+{
+    let k = y.kind;
+    match k {
+        Kind::Empty => empty_fits(y),
+        Kind::Work => work_fits(y, n),
+        Kind::Return => return_fits(y, n, parents),
+        Kind::Request => request_fits(y, n),
+        Kind::Supply => supply_fits(y, n),
+    }
+}
+
+// Slot j, of which m are in use.
+fn slot_fits(y: Slot, j: usize, m: u16, n: u16, parents: &[u16; 64]) -> bool
+    ensures { λ r. ⌜ r ≡ tests (slotRow (boardWith n m 0 (now (parents .entry))) j y) ⌝ }
+{
+    if j < m as usize {
+        return kind_fits(y, n, parents);
+    }
+    let k = y.kind;
+    both(k.is_empty(), empty_fits(y))
+}
+
 // ---- the pass over the slots
 
 // The count that a unit number leads to.
-fn place(u: u16) -> usize {
+fn place(u: u16) -> usize
+    ensures { λ r. ⌜ r ≡ placeOf u ⌝ }
+{
     if u >= 64 {
         return 64;
     }
     u as usize
 }
 
-// The count that a slot adds to: the unit's that it is a request from or a supply to.
-fn pending_place(y: Slot) -> usize {
+// The count that a slot adds to: that of the unit that it is a request from or a supply to.
+fn pending_place(y: Slot) -> usize
+    ensures { λ r. ⌜ r ≡ pendingPlace y (y .kind) ⌝ }
+{
     let k = y.kind;
     match k {
         Kind::Empty => 64,
@@ -129,22 +148,24 @@ fn pending_place(y: Slot) -> usize {
 }
 
 // What is left is counted down from the debt, so no sum can wrap.
-fn count_slots(b: Board) -> SlotCount {
+fn count_slots(b: Board) -> SlotCount
+    ensures { λ r. ⌜ Counted b r (r .fits) ⌝ }
+{
     let ps = b.parents;
     let mut left = b.debt;
     let mut pending = [0u16; 65];
     let mut j: usize = 0;
     while j < 256 {
         let y = b.slots[j];
-        let p = parent_of(&ps, y.from);
-        if !slot_fits(y, j, b.m, b.n, p, left) {
+        let w = y.weight;
+        if !both(w <= left, slot_fits(y, j, b.m, b.n, &ps)) {
             return SlotCount {
                 fits: false,
                 left: left,
                 pending: pending,
             };
         }
-        left = left - y.weight;
+        left = left - w;
         let at = pending_place(y);
         pending[at] = pending[at] + 1;
         j += 1;
@@ -156,39 +177,29 @@ fn count_slots(b: Board) -> SlotCount {
     }
 }
 
-// ---- the facts of a single unit
+// ---- a single unit
 
-fn idle_fits(u: UnitRecord) -> bool {
-    if u.weight != 0 {
-        return false;
-    }
-    if u.countdown != 0 {
-        return false;
-    }
-    !u.suspended
+fn idle_fits(u: UnitRecord) -> bool
+    ensures { λ r. ⌜ r ≡ tests (stateRow 0 0 u State.Idle) ⌝ }
+{
+    all3(u.weight == 0, u.countdown == 0, !u.suspended)
 }
 
-fn active_fits(u: UnitRecord) -> bool {
-    if u.weight < 1 {
-        return false;
-    }
-    u.countdown == 0
+fn active_fits(u: UnitRecord) -> bool
+    ensures { λ r. ⌜ r ≡ tests (stateRow 0 0 u State.Active) ⌝ }
+{
+    all3(true, u.weight >= 1, u.countdown == 0)
 }
 
-fn waiting_fits(u: UnitRecord, i: usize, delay: u16) -> bool {
-    if u.weight < 1 {
-        return false;
-    }
-    if u.countdown > delay {
-        return false;
-    }
-    if i < 1 {
-        return false;
-    }
-    !u.suspended
+fn waiting_fits(u: UnitRecord, i: usize, delay: u16) -> bool
+    ensures { λ r. ⌜ r ≡ tests (stateRow delay i u State.Waiting) ⌝ }
+{
+    all4(u.weight >= 1, u.countdown <= delay, !u.suspended, i >= 1)
 }
 
-fn state_fits(u: UnitRecord, i: usize, delay: u16) -> bool {
+fn state_fits(u: UnitRecord, i: usize, delay: u16) -> bool
+    ensures { λ r. ⌜ r ≡ tests (stateRow delay i u (u .state)) ⌝ }
+{
     let s = u.state;
     match s {
         State::Idle => idle_fits(u),
@@ -197,19 +208,21 @@ fn state_fits(u: UnitRecord, i: usize, delay: u16) -> bool {
     }
 }
 
-fn unit_fits(u: UnitRecord, i: usize, n: u16, delay: u16) -> bool {
+// Unit i, of which n are in use.
+fn unit_fits(u: UnitRecord, i: usize, n: u16, delay: u16) -> bool
+    ensures { λ r. ⌜ r ≡ tests (unitRow (boardWith n 0 delay []) i u) ⌝ }
+{
     if i < n as usize {
         return state_fits(u, i, delay);
     }
     let s = u.state;
-    if !s.is_idle() {
-        return false;
-    }
-    idle_fits(u)
+    both(s.is_idle(), idle_fits(u))
 }
 
 // Parent 0 fits everywhere.
-fn parent_fits(p: u16, i: usize, n: u16) -> bool {
+fn parent_fits(p: u16, i: usize, n: u16) -> bool
+    ensures { λ r. ⌜ r ≡ tests (parentRow (boardWith n 0 0 []) i p) ⌝ }
+{
     if p == 0 {
         return true;
     }
@@ -219,30 +232,20 @@ fn parent_fits(p: u16, i: usize, n: u16) -> bool {
     (p as usize) < i
 }
 
-fn pending_fits(count: u16, suspended: bool) -> bool {
+fn pending_fits(count: u16, suspended: bool) -> bool
+    ensures { λ r. ⌜ r ≡ eqb count (oneIf suspended) ⌝ }
+{
     if suspended {
         return count == 1;
     }
     count == 0
 }
 
-// Unit i with its parent p and its count of pending slots, where `left` is left of the debt.
-fn entry_fits(u: UnitRecord, p: u16, count: u16, left: u64, i: usize, n: u16, delay: u16) -> bool {
-    if left < u.weight {
-        return false;
-    }
-    if !parent_fits(p, i, n) {
-        return false;
-    }
-    if !pending_fits(count, u.suspended) {
-        return false;
-    }
-    unit_fits(u, i, n, delay)
-}
-
 // ---- the whole
 
-fn sizes_fit(n: u16, m: u16, delay: u16, debt: u64) -> bool {
+fn sizes_fit(n: u16, m: u16, delay: u16) -> bool
+    ensures { λ r. ⌜ ((b : Board) → Lengths b → b .n ≡ n → b .m ≡ m → b .delay ≡ delay → r ≡ tests (sizes b)) ⌝ }
+{
     if n < 1 {
         return false;
     }
@@ -258,13 +261,14 @@ fn sizes_fit(n: u16, m: u16, delay: u16, debt: u64) -> bool {
     if delay > 255 {
         return false;
     }
-    debt <= 1_099_511_627_776
+    true
 }
 
+// The pass over the units, after that over the slots.
 pub fn is_sound(b: Board) -> bool
     ensures { λ r. ⌜ r ≡ sound b ⌝ }
 {
-    if !sizes_fit(b.n, b.m, b.delay, b.debt) {
+    if !both(b.debt <= 1_099_511_627_776, sizes_fit(b.n, b.m, b.delay)) {
         return false;
     }
     let t = count_slots(b);
@@ -275,10 +279,13 @@ pub fn is_sound(b: Board) -> bool
     let mut i: usize = 0;
     while i < 64 {
         let u = b.units[i];
-        if !entry_fits(u, b.parents[i], t.pending[i], left, i, b.n, b.delay) {
+        let w = u.weight;
+        let parent = parent_fits(b.parents[i], i, b.n);
+        let pending = pending_fits(t.pending[i], u.suspended);
+        if !all4(w <= left, parent, pending, unit_fits(u, i, b.n, b.delay)) {
             return false;
         }
-        left = left - u.weight;
+        left = left - w;
         i += 1;
     }
     left == 0
