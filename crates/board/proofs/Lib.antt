@@ -2,3 +2,6 @@ pub mod TestLaws
 pub mod JudgeLaws
 pub mod DepthLaws
 pub mod OpeningLaws
+pub mod RowLaws
+pub mod SlotLaws
+pub mod BoardLaws

@@ -23,16 +23,17 @@ pub record Lengths (b : Board) : Type 0 where
 abbrev pub boardWith : ℕ → ℕ → ℕ → List ℕ → Board
 boardWith n m delay parents = record { n = n; m = m; delay = delay; debt = 0; parents = parents; units = []; slots = [] }
 
--- the count that a slot adds to: that of the unit that it is a request from or a supply to, else the last
+-- the unit that a slot is a request from or a supply to; for any other slot a number that no unit has
+abbrev pub pendsFor : Slot → Kind → ℕ
+pendsFor y Empty = 64
+pendsFor y Work = 64
+pendsFor y Return = 64
+pendsFor y Request = y .from
+pendsFor y Supply = y .to
+
+-- the count of a unit: every number past the last unit has the last count
 abbrev pub placeOf : ℕ → ℕ
 placeOf u = cond (ltb u 64) u 64
-
-abbrev pub pendingPlace : Slot → Kind → ℕ
-pendingPlace y Empty = 64
-pendingPlace y Work = 64
-pendingPlace y Return = 64
-pendingPlace y Request = placeOf (y .from)
-pendingPlace y Supply = placeOf (y .to)
 
 -- what the pass over the slots found: each fits, what they leave of the debt, and what is pending for each unit
 pub record SlotsFit (b : Board) (left : ℕ) (counts : List ℕ) : Type 0 where

@@ -13,7 +13,7 @@ ghost use lib.ListN.{getD};
 ghost use lib.Dec.{eqb};
 ghost use Rattle.rules.specs.Facts.{tests, oneIf};
 ghost use Rattle.rules.specs.Sound.{kindRow, slotRow, stateRow, unitRow, parentRow, sizes, sound};
-ghost use Rattle.board.specs.Passes.{Lengths, boardWith, placeOf, pendingPlace, Counted};
+ghost use Rattle.board.specs.Passes.{Lengths, boardWith, pendsFor, placeOf, Counted};
 
 // What the pass over the slots gives: whether every slot fits, what the slots leave of the debt, and how many requests and supplies
 // are pending for each unit. The last count is that of the slots that pend for no unit.
@@ -68,7 +68,7 @@ fn work_fits(y: Slot, n: u16) -> bool
     all3(y.from < n, y.to < n, y.weight >= 1)
 }
 
-fn return_fits(y: Slot, n: u16, parents: &[u16; 64]) -> bool
+fn return_fits(y: Slot, n: u16, parents: &[u16]) -> bool
     ensures { λ r. ⌜ r ≡ tests (kindRow (boardWith n 0 0 (now (parents .entry))) y Kind.Return) ⌝ }
 {
     let p = parent_of(parents, y.from);
@@ -88,17 +88,18 @@ fn supply_fits(y: Slot, n: u16) -> bool
 }
 
 // A junk slot may be from any number; past the last entry the parent is 0.
-fn parent_of(parents: &[u16; 64], u: u16) -> u16
+fn parent_of(parents: &[u16], u: u16) -> u16
     ensures { λ r. ⌜ r ≡ getD (now (parents .entry)) u 0 ⌝ }
 {
-    if u >= 64 {
+    let i = u as usize;
+    if i >= parents.len() {
         return 0;
     }
-    parents[u as usize]
+    parents[i]
 }
 
-fn kind_fits(y: Slot, n: u16, parents: &[u16; 64]) -> bool
-    ensures { λ r. ⌜ r ≡ tests (kindRow (boardWith n 0 0 (now (parents .entry))) y (y .kind)) ⌝ }
+fn kind_fits(y: Slot, n: u16, parents: &[u16]) -> bool
+    ensures { λ r. ⌜ ((m : ℕ) → r ≡ tests (kindRow (boardWith n m 0 (now (parents .entry))) y (y .kind))) ⌝ }
 {
     let k = y.kind;
     match k {
@@ -111,7 +112,7 @@ fn kind_fits(y: Slot, n: u16, parents: &[u16; 64]) -> bool
 }
 
 // Slot j, of which m are in use.
-fn slot_fits(y: Slot, j: usize, m: u16, n: u16, parents: &[u16; 64]) -> bool
+fn slot_fits(y: Slot, j: usize, m: u16, n: u16, parents: &[u16]) -> bool
     ensures { λ r. ⌜ r ≡ tests (slotRow (boardWith n m 0 (now (parents .entry))) j y) ⌝ }
 {
     if j < m as usize {
@@ -123,7 +124,21 @@ fn slot_fits(y: Slot, j: usize, m: u16, n: u16, parents: &[u16; 64]) -> bool
 
 // ---- the pass over the slots
 
-// The count that a unit number leads to.
+// The unit that a slot is a request from or a supply to; for any other slot a number that no unit has.
+fn pends_for(y: Slot) -> u16
+    ensures { λ r. ⌜ r ≡ pendsFor y (y .kind) ⌝ }
+{
+    let k = y.kind;
+    match k {
+        Kind::Empty => 64,
+        Kind::Work => 64,
+        Kind::Return => 64,
+        Kind::Request => y.from,
+        Kind::Supply => y.to,
+    }
+}
+
+// The count of a unit: every number past the last unit has the last count.
 fn place(u: u16) -> usize
     ensures { λ r. ⌜ r ≡ placeOf u ⌝ }
 {
@@ -131,20 +146,6 @@ fn place(u: u16) -> usize
         return 64;
     }
     u as usize
-}
-
-// The count that a slot adds to: that of the unit that it is a request from or a supply to.
-fn pending_place(y: Slot) -> usize
-    ensures { λ r. ⌜ r ≡ pendingPlace y (y .kind) ⌝ }
-{
-    let k = y.kind;
-    match k {
-        Kind::Empty => 64,
-        Kind::Work => 64,
-        Kind::Return => 64,
-        Kind::Request => place(y.from),
-        Kind::Supply => place(y.to),
-    }
 }
 
 // What is left is counted down from the debt, so no sum can wrap.
@@ -166,7 +167,7 @@ fn count_slots(b: Board) -> SlotCount
             };
         }
         left = left - w;
-        let at = pending_place(y);
+        let at = place(pends_for(y));
         pending[at] = pending[at] + 1;
         j += 1;
     }
