@@ -5,3 +5,4 @@ pub mod OpeningLaws
 pub mod RowLaws
 pub mod SlotLaws
 pub mod BoardLaws
+pub mod UnitLaws

@@ -1,5 +1,5 @@
 -- The pass over the slots: what holds once j of them are passed, and what a sound board says of the next.
-use mathlib.Core.Path.{_≡_, refl, sym, ap, _∙_}
+use mathlib.Core.Path.{_≡_, refl, sym, ap, subst, _∙_}
 use mathlib.Core.Bool.{Bool, true, false, cond}
 use mathlib.Core.List.{List, [], _∷_}
 use Prim.Native.Nat.{ℕ, zero, suc, _+_, _-_, _≤_, _<_}
@@ -12,14 +12,15 @@ use borrow.Author.Count.{below-none, below-more}
 use borrow.Author.Tests.{lt-ltb, le-ltb, eqb-true, eqb-false, ne-eqb}
 use Rattle.rules.specs.Facts.{atMost, Claims, sumOf, oneIf}
 use Rattle.rules.specs.Words.{blankSlot, slotAt}
-use Rattle.rules.specs.Sound.{slotRow, pendingIn, pending, unitsWeight, slotsWeight, Sound}
+use Rattle.rules.specs.Sound.{slotRow, pendingIn, pending, unitsWeight, slotsWeight, Sound, sound}
 use Rattle.rules.specs.declared.Kind.{Kind}
 use Rattle.rules.specs.declared.Kind.the-variants.{Empty, Work, Return, Request, Supply}
 use Rattle.rules.specs.declared.Slot.{Slot}
 use Rattle.rules.specs.declared.Board.{Board}
 use Rattle.rules.proofs.FactLaws.{each-at, each-of}
 use Rattle.rules.proofs.SoundLaws.{below-or-not}
-use Rattle.board.specs.Passes.{Lengths, pendsFor, placeOf, SlotsFit}
+use Rattle.board.specs.declared.soundness.SlotCount.{SlotCount}
+use Rattle.board.specs.Passes.{Lengths, pendsFor, placeOf, SlotsFit, Counted}
 
 -- a sum over what is left of a list, one element further
 pub sum-next : {A : Type 0} (f : A → ℕ) (xs : List A) (j : ℕ) (d : A) → j < length xs → sumOf (λ k. f) (drop j xs) ≡ f (getD xs j d) + sumOf (λ k. f) (drop (j + 1) xs)
@@ -120,3 +121,10 @@ module _ (b : Board) (lengths : Lengths b) (left : ℕ) (counts : List ℕ) (j :
     leaves = omega (arith, h .leaves, sum-end (λ y. y .weight) (b .slots) j (omega (arith, lengths .of-slots)));
     counted = λ i p. omega (arith, h .counted i p, sum-end (λ y. pendingIn i y (y .kind)) (b .slots) j (omega (arith, lengths .of-slots)));
   }
+
+-- ---- by what the pass answers
+pub refused-count : (b : Board) (t : SlotCount) → Counted b t (t .fits) → t .fits ≡ false → false ≡ sound b
+refused-count b t h e = sym (subst (λ (f : Bool). Counted b t f) e h)
+
+pub passed-count : (b : Board) (t : SlotCount) → Counted b t (t .fits) → t .fits ≡ true → SlotsFit b (t .left) (t .pending)
+passed-count b t h e = subst (λ (f : Bool). Counted b t f) e h
