@@ -1,0 +1,42 @@
+// A step on the records that it may change: a unit, its parent and a slot.
+ghost use mathlib.Core.Path.{_≡_};
+ghost use Prim.Native.Nat.{_+_, _≤_};
+ghost use Rattle.rules.specs.Words.{ceiling};
+ghost use Rattle.rules.specs.Steps.{recordRule};
+use crate::delivering::deliver;
+use crate::requesting::request;
+use crate::resting::release;
+use crate::resting::rest;
+use crate::resting::tick;
+use crate::sending::send;
+use crate::sending::start;
+use rules::Action;
+use rules::Effect;
+use rules::Slot;
+use rules::StepRecord;
+use rules::UnitRecord;
+
+// What a step does on the unit x, whose parent is p, and the slot y.
+pub(crate) fn record_rule(
+    debt: u64,
+    delay: u16,
+    r: StepRecord,
+    x: UnitRecord,
+    p: u16,
+    y: Slot,
+    a: Action,
+) -> Effect
+    requires { ⌜ (x .weight + y .weight ≤ debt) × (debt ≤ ceiling) ⌝ }
+    ensures { λ e. ⌜ e ≡ recordRule debt delay r x p y a ⌝ }
+{
+    match a {
+        Action::Unknown => Effect::Refused(16),
+        Action::Start => start(debt),
+        Action::Send => send(debt, r.unit, r.other, x, y),
+        Action::Request => request(debt, r.unit, x, y),
+        Action::Deliver => deliver(debt, delay, x, y),
+        Action::Rest => rest(debt, delay, r.unit, x),
+        Action::Tick => tick(debt, x),
+        Action::Release => release(debt, r.unit, p, x, y),
+    }
+}
