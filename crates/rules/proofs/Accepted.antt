@@ -1,14 +1,14 @@
 -- What an accepted step tells: the board was sound, every check of the step's bracket held, and the board after it.
-use mathlib.Core.Path.{_≡_, refl, sym, ap, subst, _∙_}
+use mathlib.Core.Path.{_≡_, refl, sym, ap, _∙_}
 use mathlib.Core.Bool.{Bool, true, false, cond}
-use mathlib.Core.List.{List, [], _∷_}
-use Prim.Native.Nat.{ℕ, _≤_, _<_}
+use Prim.Native.Nat.{ℕ, _≤_}
 use native.Mathlib.Omega.{arith}
-use Rattle.rules.specs.Facts.{test, Claims, Check, check, judge}
+use Rattle.rules.specs.Facts.{Claims}
 use Rattle.rules.specs.Words.{parentAt, unitAt, slotAt}
 use Rattle.rules.specs.Sound.{Sound, sound}
 use Rattle.rules.specs.Steps.{actionOf, unitOf, slotOf, placeChecks, grantFits, recordChecks, recordEffect, recordRule, effectBy, effect, applied, soundStep, step}
-use Rattle.rules.proofs.FactLaws.{claimed, asked, judge-passed}
+use Rattle.rules.proofs.JudgeLaws.{Numbered, Judged, passed, failed, judged}
+use Rattle.rules.proofs.FactLaws.{asked, judge-passed}
 use Rattle.rules.proofs.SoundLaws.{sound-claims, sound-tested}
 use Rattle.rules.specs.declared.Kind.{Kind}
 use Rattle.rules.specs.declared.Kind.the-variants.{Empty, Work, Return, Request, Supply}
@@ -22,30 +22,7 @@ use Rattle.rules.specs.declared.Board.{Board}
 use Rattle.rules.specs.declared.StepRecord.{StepRecord}
 use Rattle.rules.specs.declared.Outcome.{Outcome}
 
--- ---- a judgement either passed every check or is a refusal by a number, which is above 0 and has at most two digits
-abbrev pub Number : ℕ → Type 0
-Number k = (1 ≤ k) × (k < 100)
-
-abbrev pub Numbered : List Check → Type 0
-Numbered [] = Unit {0}
-Numbered (check f k ∷ cs) = Number k × Numbered cs
-
-pub data Judged {A : Type 0} (refused : ℕ → A) (cs : List Check) (result : A) : Type 0 where
-  passed : Claims (asked cs) → Judged refused cs result
-  failed : (k : ℕ) → Number k → judge refused cs result ≡ refused k → Judged refused cs result
-
-pub judged : {A : Type 0} (refused : ℕ → A) (cs : List Check) (result : A) → Numbered cs → Judged refused cs result
-judged refused [] result n = passed tt
-judged {A} refused (check f k ∷ cs) result n = by-test (test f) refl (judged refused cs result (n .1))
-  where
-    by-rest : test f ≡ true → Judged refused cs result → Judged refused (check f k ∷ cs) result
-    by-rest e (passed c) = passed (claimed f e, c)
-    by-rest e (failed j p q) = failed j p (subst (λ (t : Bool). cond t (judge refused cs result) (refused k) ≡ refused j) (sym e) q)
-
-    by-test : (t : Bool) → test f ≡ t → Judged refused cs result → Judged refused (check f k ∷ cs) result
-    by-test true e j = by-rest e j
-    by-test false e j = failed k (n .0) (ap (λ (t : Bool). cond t (judge refused cs result) (refused k)) e)
-
+-- ---- every check of a step has a number
 pub place-numbered : (n m : ℕ) (r : StepRecord) (a : Action) → Numbered (placeChecks n m r a)
 place-numbered n m r Unknown = tt
 place-numbered n m r Start = omega arith

@@ -9,7 +9,8 @@ use Rattle.rules.specs.Words.{parentAt, unitAt, slotAt}
 use Rattle.rules.specs.Sound.{sound}
 use Rattle.rules.specs.Steps.{deliverEffect, actionOf, unitOf, slotOf, placeChecks, recordChecks, recordEffect, recordRule, effectBy, effect, applied, soundStep, step}
 use Rattle.rules.proofs.FactLaws.{judge-passed}
-use Rattle.rules.proofs.Accepted.{Judged, passed, failed, judged, place-numbered, record-numbered}
+use Rattle.rules.proofs.Accepted.{place-numbered, record-numbered}
+use Rattle.rules.proofs.JudgeLaws.{Judged, passed, failed, judged}
 use Rattle.rules.specs.declared.Kind.{Kind}
 use Rattle.rules.specs.declared.Kind.the-variants.{Empty, Work, Return, Request, Supply}
 use Rattle.rules.specs.declared.Action.{Action}

@@ -13,7 +13,7 @@ use Rattle.rules.specs.Opening.{lowerParents, openingChecks, fresh, blan
 use Rattle.rules.proofs.FactLaws.{asked, each-claims, each-at, each-of, judge-passed}
 use Rattle.rules.proofs.SumLaws.{sum-none}
 use Rattle.rules.proofs.SoundLaws.{row-of}
-use Rattle.rules.proofs.Accepted.{Judged, passed, failed, judged}
+use Rattle.rules.proofs.JudgeLaws.{Judged, passed, failed, judged}
 use Rattle.rules.specs.declared.UnitRecord.{UnitRecord}
 use Rattle.rules.specs.declared.Slot.{Slot}
 use Rattle.rules.specs.declared.Board.{Board}

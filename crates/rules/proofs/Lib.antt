@@ -1,4 +1,5 @@
 pub mod FactLaws
+pub mod JudgeLaws
 pub mod SumLaws
 pub mod SoundLaws
 pub mod Changes

@@ -138,7 +138,17 @@ releaseEffect debt u p x = OnBoth blankUnit (message Return u p (x .weight)) deb
 abbrev pub actionOf : ℕ → Action
 actionOf k = getD (Unknown ∷ Start ∷ Send ∷ RequestStep ∷ Deliver ∷ Rest ∷ Tick ∷ Release ∷ []) k Unknown
 
--- the unit and the slot that a step may change; a delivery's unit is the receiver that its slot names
+-- the slot and the unit that a step may change; a delivery's unit is the receiver `to` that its slot names
+abbrev pub slotOf : StepRecord → Action → ℕ
+slotOf r Unknown = 0
+slotOf r Start = 0
+slotOf r Send = r .slot
+slotOf r RequestStep = r .slot
+slotOf r Deliver = r .slot
+slotOf r Rest = 0
+slotOf r Tick = 0
+slotOf r Release = r .slot
+
 abbrev pub unitBy : StepRecord → ℕ → Action → ℕ
 unitBy r to Unknown = 0
 unitBy r to Start = r .unit
@@ -150,17 +160,7 @@ unitBy r to Tick = r .unit
 unitBy r to Release = r .unit
 
 abbrev pub unitOf : Board → StepRecord → Action → ℕ
-unitOf b r a = unitBy r (slotAt b (r .slot) .to) a
-
-abbrev pub slotOf : StepRecord → Action → ℕ
-slotOf r Unknown = 0
-slotOf r Start = 0
-slotOf r Send = r .slot
-slotOf r RequestStep = r .slot
-slotOf r Deliver = r .slot
-slotOf r Rest = 0
-slotOf r Tick = 0
-slotOf r Release = r .slot
+unitOf b r a = unitBy r (slotAt b (slotOf r a) .to) a
 
 -- the head of each bracket: 13 unit not below n, 14 slot not below M, for the letters that the kind has
 abbrev pub placeChecks : ℕ → ℕ → StepRecord → Action → List Check

@@ -1,4 +1,2 @@
 pub mod Flags
-pub mod Judging
 pub mod Clamping
-pub mod UsedFields
