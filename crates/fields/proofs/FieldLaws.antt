@@ -1,5 +1,5 @@
 -- Laws of the fields of a line: where a field stands, what the first of joined fields is, and what the code's loops rest on.
-use mathlib.Core.Path.{_≡_, refl, sym, ap, _∙_}
+use mathlib.Core.Path.{_≡_, refl, sym, ap}
 use mathlib.Core.List.{List, [], _∷_, _++_}
 use Prim.Native.Nat.{ℕ, zero, suc, _+_, _-_, _≤_, _<_}
 use native.Mathlib.Numerals.{add-one}
@@ -7,7 +7,7 @@ use native.Mathlib.Omega.{arith}
 use lib.ListN.{length, take, drop, length-drop, drop-of-length-le}
 use lib.Seq.{drop-drop, drop-length}
 use Rattle.fields.specs.Fields.{upTo, past, countOf, endFrom, tab, fieldOf, fieldStart, fieldCount}
-use Rattle.fields.proofs.PartLaws.{upTo-joined, past-joined, count-joined, upTo-whole, past-whole, upTo-take, past-drop, past-at-most, past-stands, count-past, end-is, end-after, end-at-most, upTo-from, past-from}
+use Rattle.fields.proofs.PartLaws.{upTo-joined, past-joined, count-joined, upTo-whole, past-whole, upTo-take, past-at-most, past-stands, count-past, upTo-none, end-is, end-after, end-at-most, upTo-from, past-from}
 
 -- ---- fields that are joined by tabs
 
@@ -51,6 +51,15 @@ field-stands k l = rw (field-from k l) (upTo-take tab (drop (fieldStart k l) l))
 pub field-end : (k : ℕ) (l : List ℕ) → fieldStart k l + length (fieldOf k l) ≡ endFrom tab (fieldStart k l) l
 field-end k l = rw (field-from k l) (sym (end-is tab (fieldStart k l) l (start-at-most k l)))
 
+-- no byte of a field is a tab
+pub field-none : (k : ℕ) (l : List ℕ) → countOf tab (fieldOf k l) ≡ 0
+field-none k l = rw (field-from k l) (upTo-none tab (drop (fieldStart k l) l))
+
+-- a field that starts at the line's end is empty
+pub field-at-end : (k : ℕ) (l : List ℕ) → fieldStart k l ≡ length l → fieldOf k l ≡ []
+unfolding upTo
+field-at-end k l h = rw (field-from k l, h, drop-length)
+
 -- the cut from a field's start to the next tab
 module _ (k : ℕ) (l : List ℕ) {start end : ℕ} (s : start ≡ fieldStart k l) (t : end ≡ endFrom tab start l) where
   cut-inside : start ≤ length l
@@ -83,8 +92,7 @@ start-beyond zero l h = absurd (omega arith)
 start-beyond (suc k) l h = start-past k l (omega arith)
 
 pub field-beyond : (k : ℕ) (l : List ℕ) → fieldCount l ≤ k → fieldOf k l ≡ []
-unfolding upTo
-field-beyond k l h = rw (field-from k l, start-beyond k l h, drop-length)
+field-beyond k l h = field-at-end k l (start-beyond k l h)
 
 -- ---- one turn of the search for a field's start: from a place on, to the next tab or to the line's end
 

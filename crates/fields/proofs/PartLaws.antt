@@ -1,5 +1,5 @@
 -- Laws of the bytes up to a separator and past it, of the count of separators, and of the place of the next one, over any separator e.
-use mathlib.Core.Path.{_≡_, refl, sym, ap, _∙_}
+use mathlib.Core.Path.{_≡_, refl, ap}
 use mathlib.Core.Bool.{Bool, true, false, cond}
 use mathlib.Core.List.{List, [], _∷_, _++_, append-nil}
 use Prim.Native.Nat.{ℕ, zero, suc, _+_, _-_, _≤_, _<_}
@@ -8,8 +8,8 @@ use native.Mathlib.Numerals.{add-one}
 use native.Mathlib.Omega.{arith}
 use lib.Dec.{eqb, leb}
 use lib.ListN.{length, take, drop, getD, length-take, length-drop, drop-of-length-le}
-use lib.Seq.{drop-cons, drop-drop, drop-length}
-use borrow.Author.Tests.{leb-true, leb-false, eqb-true, eq-eqb, ne-eqb, le-leb, lt-leb}
+use lib.Seq.{drop-cons, drop-drop}
+use borrow.Author.Tests.{leb-true, leb-false, eqb-true, eq-eqb, ne-eqb, le-leb}
 use Rattle.fields.specs.Fields.{upTo, past, countOf, endFrom}
 
 -- ---- the count
@@ -22,15 +22,6 @@ count-append e (c ∷ a) b = at _ _ _ (eqb c e) (count-append e a b)
     at : (p q r : ℕ) (t : Bool) → p ≡ q + r → cond t (suc p) p ≡ cond t (suc q) q + r
     at p q r true h = omega arith
     at p q r false h = h
-
-pub count-at-most : (e : ℕ) (l : List ℕ) → countOf e l ≤ length l
-unfolding countOf
-count-at-most e [] = omega arith
-count-at-most e (c ∷ l) = at (eqb c e) (count-at-most e l)
-  where
-    at : {p q : ℕ} (t : Bool) → p ≤ q → cond t (suc p) p ≤ suc q
-    at true h = omega arith
-    at false h = omega arith
 
 -- ---- a word without the separator in front
 

@@ -4,6 +4,9 @@ ghost use Prim.Native.Nat.{_+_};
 ghost use denote.Ref.{ptr};
 ghost use Rattle.fields.specs.Fields.{fieldOf, fieldStart, fieldCount, endFrom};
 
+// What parts the fields of a line.
+const TAB: u8 = 9;
+
 // The place of the first byte e at or after a place, or the end: a field's end for a tab, a line's for byte 10.
 pub fn end_from(s: &[u8], from: usize, e: u8) -> usize
     ensures { λ r. ⌜ r ≡ endFrom e from (now (s .entry)) ⌝ }
@@ -28,7 +31,7 @@ pub fn field_start(line: &[u8], k: usize) -> usize
     let mut at: usize = 0;
     let mut left = k;
     while 0 < left {
-        let end = end_from(line, at, 9);
+        let end = end_from(line, at, TAB);
         if end == line.len() {
             return end;
         }
@@ -44,7 +47,11 @@ pub fn field(line: &[u8], k: usize) -> &[u8]
     ensures place { λ r. ⌜ (ptr r .0 ≡ ptr (line .entry) .0) × (ptr r .1 ≡ ptr (line .entry) .1 + fieldStart k (now (line .entry))) ⌝ }
 {
     let start = field_start(line, k);
-    let end = end_from(line, start, 9);
+    // Nothing is left of the line: the empty part at its end.
+    if start == line.len() {
+        return &line[start..start];
+    }
+    let end = end_from(line, start, TAB);
     &line[start..end]
 }
 
@@ -55,7 +62,7 @@ pub fn field_count(line: &[u8]) -> usize
     let mut n: usize = 1;
     let mut i = 0;
     while i < line.len() {
-        if line[i] == 9 {
+        if line[i] == TAB {
             n += 1;
         }
         i += 1;

@@ -1,16 +1,12 @@
 -- `end_from` meets its contract. The loop's invariant: the separator that is next from here is next from the start.
 use mathlib.Core.Path.{_≡_, refl, sym, _∙_}
-use Prim.Native.Nat.{ℕ, _≤_, _-_}
-use native.Mathlib.Numerals.{add-one}
+use Prim.Native.Nat.{_≤_, _-_}
 use native.Mathlib.Omega.{arith}
-use borrow.Author.Needs.{needs}
 use lib.ListN.{length}
 use Rattle.fields.specs.Fields.{endFrom}
 use Rattle.fields.proofs.PartLaws.{end-last, end-here, end-next}
 use Rattle.fields.proofs.end_from.Statement.{statement}
 use Rattle.fields.proofs.end_from.Tie as tie
-use Rattle.fields.proofs.end_from.Reads as reads
-use Rattle.fields.proofs.end_from.Lts as lts
 
 abbrev Inv-loop : tie.InvT-loop
 Inv-loop s from e i₀ i = (i ≤ length s) × (endFrom e i s ≡ endFrom e from s)

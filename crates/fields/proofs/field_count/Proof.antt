@@ -1,16 +1,13 @@
 -- `field_count` meets its contract. The loop's invariant: the count so far and the tabs from here on make the count of fields.
 use mathlib.Core.Path.{_≡_, ap}
 use mathlib.Core.Logic.{⊎-elim}
-use Prim.Native.Nat.{ℕ, _+_, _≤_, _-_}
-use native.Mathlib.Numerals.{add-one}
+use Prim.Native.Nat.{_+_, _≤_, _-_}
 use native.Mathlib.Omega.{arith}
 use lib.ListN.{length, drop, drop-of-length-le}
 use Rattle.fields.specs.Fields.{countOf, fieldCount, tab}
 use Rattle.fields.proofs.PartLaws.{count-here, count-next}
 use Rattle.fields.proofs.field_count.Statement.{statement}
 use Rattle.fields.proofs.field_count.Tie as tie
-use Rattle.fields.proofs.field_count.Reads as reads
-use Rattle.fields.proofs.field_count.Lts as lts
 
 abbrev Inv-loop : tie.InvT-loop
 Inv-loop line n₀ i₀ n i = (i ≤ length line) × ((n ≤ i + 1) × (n + countOf tab (drop i line) ≡ fieldCount line))

@@ -1,6 +1,6 @@
 -- `field_start` meets its contract. The loop's invariant: the start of the field, counted from here on, is the start on the whole line.
 use mathlib.Core.Path.{_≡_, sym, _∙_}
-use Prim.Native.Nat.{ℕ, _+_, _≤_, _<_}
+use Prim.Native.Nat.{_+_, _≤_, _<_}
 use native.Mathlib.Omega.{arith}
 use borrow.Author.Needs.{needs}
 use lib.ListN.{length, drop}
@@ -9,9 +9,6 @@ use Rattle.fields.proofs.PartLaws.{end-at-most}
 use Rattle.fields.proofs.FieldLaws.{start-next, start-last}
 use Rattle.fields.proofs.field_start.Statement.{statement}
 use Rattle.fields.proofs.field_start.Tie as tie
-use Rattle.fields.proofs.field_start.Reads as reads
-use Rattle.fields.proofs.field_start.Lts as lts
-use Rattle.fields.proofs.end_from.Reads as end-from-reads
 
 abbrev Inv-loop : tie.InvT-loop
 Inv-loop line k at₀ left₀ at left = (at ≤ length line) × (at + fieldStart left (drop at line) ≡ fieldStart k line)
