@@ -23,7 +23,7 @@ end-from-requires : tie.Need-end-from-requires Inv-loop μ-loop
 end-from-requires c κs = search needs
 
 returns : tie.Need-returns Inv-loop μ-loop
-returns c = sym (start-last _ _ (c .before .before .before .loop .inv .0) (c .before .end-from .ensures) _ (c .before .before .loop-test .taken) (c .if1 .taken)) ∙ c .before .before .before .loop .inv .1
+returns c = sym (start-last _ _ (c .before .before .before .loop .inv .0) (c .before .end-from .ensures) (c .before .before .before .loop .left) (omega arith) (c .if1 .taken)) ∙ c .before .before .before .loop .inv .1
 
 add-at : tie.Need-add-at Inv-loop μ-loop
 add-at c = omega (arith, end-at-most tab (c .before .before .before .loop .at) (c .before .before .before .before .before .args .line .now))
@@ -37,7 +37,7 @@ loop-less c = omega arith
 loop-again : tie.Need-loop-again Inv-loop μ-loop
 loop-again c =
     let more : c .before .end-from .result < length (c .before .before .before .before .before .args .line .now) = omega (arith, end-at-most tab (c .before .before .before .loop .at) (c .before .before .before .before .before .args .line .now)) in
-    (omega arith, sym (start-next _ _ (c .before .before .before .loop .inv .0) (c .before .end-from .ensures) _ (c .before .before .loop-test .taken) more) ∙ c .before .before .before .loop .inv .1)
+    (omega arith, sym (start-next _ _ (c .before .before .before .loop .inv .0) (c .before .end-from .ensures) (c .before .before .before .loop .left) (omega arith) more) ∙ c .before .before .before .loop .inv .1)
 
 returns-2 : tie.Need-returns-2 Inv-loop μ-loop
 unfolding fieldStart
