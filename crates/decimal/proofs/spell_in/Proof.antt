@@ -1,0 +1,96 @@
+-- `decimal::spell_in` meets its contract: at each turn, storing the digits that are left gives what storing all of them gives.
+use mathlib.Core.Path.{_≡_, _∙_}
+use Prim.Native.Nat.{ℕ, _+_, _-_, _^_, _≤_, _<_}
+use native.Mathlib.Omega.{arith}
+use borrow.Author.Needs.{needs}
+use lib.ListN.{length, length-set}
+use lib.Seq.{sets}
+use Rattle.decimal.specs.Spelling.{spell}
+use Rattle.decimal.proofs.TurnLaws.{turn-divisor, turn-digit, turn-rest, turn-sets}
+use Rattle.decimal.proofs.spell_in.Statement.{statement}
+use Rattle.decimal.proofs.spell_in.Tie as tie
+
+abbrev Inv-loop : tie.InvT-loop
+Inv-loop n k out₀ at powers rest₀ left₀ to₀ out rest left to =
+    (left ≤ k) × (to + left ≡ at + k) × (length out ≡ length out₀) × (rest < 10 ^ left) × (sets out to (spell left rest) ≡ sets out₀ at (spell k n))
+
+abbrev μ-loop : tie.MeasureT-loop
+μ-loop n k out₀ at powers rest₀ left₀ to₀ out rest left to = left
+
+abbrev Left : tie.In-loop Inv-loop μ-loop → ℕ
+Left c = c .before .loop .left
+
+abbrev Rest : tie.In-loop Inv-loop μ-loop → ℕ
+Rest c = c .before .loop .rest
+
+loop-holds : tie.Need-loop-holds Inv-loop μ-loop
+loop-holds c = search needs
+
+sub-left : tie.Need-sub-left Inv-loop μ-loop
+sub-left c = search needs
+
+mul-p : tie.Need-mul-p Inv-loop μ-loop
+mul-p c = search needs
+
+array-read-p : tie.Need-array-read-p Inv-loop μ-loop
+array-read-p c = search needs
+
+div-out : tie.Need-div-out Inv-loop μ-loop
+div-out c = turn-divisor (Left c) (Rest c) (omega arith) (omega arith) (omega arith)
+
+cast-out : tie.Need-cast-out Inv-loop μ-loop
+cast-out c = omega (arith, turn-digit (Left c) (Rest c) (omega arith) (omega arith) (omega arith))
+
+add-out : tie.Need-add-out Inv-loop μ-loop
+add-out c = omega (arith, turn-digit (Left c) (Rest c) (omega arith) (omega arith) (omega arith))
+
+slice-write-out : tie.Need-slice-write-out Inv-loop μ-loop
+slice-write-out c = search needs
+
+rem-rest : tie.Need-rem-rest Inv-loop μ-loop
+rem-rest c = turn-divisor (Left c) (Rest c) (omega arith) (omega arith) (omega arith)
+
+add-to : tie.Need-add-to Inv-loop μ-loop
+add-to c = search needs
+
+loop-less : tie.Need-loop-less Inv-loop μ-loop
+loop-less c = search needs
+
+loop-again : tie.Need-loop-again Inv-loop μ-loop
+loop-again c = (
+  omega arith,
+  omega arith,
+  simp length-set (omega arith),
+  turn-rest (Left c) (Rest c) (omega arith) (omega arith) (omega arith),
+  turn-sets (Left c) (Rest c) (omega arith) (omega arith) (omega arith) (c .before .loop .out) (c .before .loop .to) ∙ c .before .loop .inv .4,
+)
+
+same-length : tie.Need-same-length Inv-loop μ-loop
+same-length c = search needs
+
+returns : tie.Need-returns Inv-loop μ-loop
+unfolding spell
+returns c =
+    let none : c .before .loop .left ≡ 0 = omega arith in
+    rw none at (c .before .loop .inv .4)
+
+pub spell-in-spec : {M : Type 1} → statement M
+spell-in-spec =
+    tie.close
+    (tie.spec
+    Inv-loop
+    μ-loop
+    loop-holds
+    sub-left
+    mul-p
+    array-read-p
+    div-out
+    cast-out
+    add-out
+    slice-write-out
+    rem-rest
+    add-to
+    loop-less
+    loop-again
+    same-length
+    returns)
