@@ -1,11 +1,11 @@
 -- A judgement by its number: 0 where no check fails, else the number that refuses.
-use mathlib.Core.Path.{_≡_, refl, sym}
+use mathlib.Core.Path.{_≡_, refl}
 use mathlib.Core.Bool.{Bool, true, false, cond}
 use mathlib.Core.List.{List, [], _∷_}
 use Prim.Native.Nat.{ℕ}
 use lib.Dec.{eqb}
 use borrow.Author.Tests.{lt-ltb, le-ltb, le-leb, lt-leb, eq-eqb, ne-eqb, eqb-false}
-use Rattle.rules.specs.Facts.{Fact, test, Claims, Check, check, judge}
+use Rattle.rules.specs.Facts.{test, Claims, Check, check, judge}
 use Rattle.rules.proofs.FactLaws.{asked, claimed}
 
 -- what the tests of numbers say, for `search`

@@ -1,13 +1,13 @@
 -- The pass over the units: what holds once i of them are passed, what a sound board says of the next, and the verdict at the end.
-use mathlib.Core.Path.{_≡_, refl, sym, ap, _∙_}
+use mathlib.Core.Path.{_≡_, refl, sym, _∙_}
 use mathlib.Core.Bool.{Bool, true, false}
 use mathlib.Core.List.{List, [], _∷_}
 use Prim.Native.Nat.{ℕ, _+_, _-_, _≤_, _<_}
 use native.Mathlib.Omega.{arith}
-use lib.ListN.{length, getD, drop}
+use lib.ListN.{getD, drop}
 use lib.Dec.{eqb}
 use borrow.Author.Count.{below-none, below-more}
-use borrow.Author.Tests.{eqb-true, eqb-false, eq-eqb}
+use borrow.Author.Tests.{eqb-true, eqb-false}
 use Rattle.rules.specs.Facts.{Fact, atMost, equal, holds, Claims, tests, Each, oneIf}
 use Rattle.rules.specs.Words.{blankUnit, parentAt, unitAt, ceiling}
 use Rattle.rules.specs.Sound.{sizes, parentRow, unitRow, slotRow, pendingRow, pending, unitsWeight, slotsWeight, Sound, sound}
