@@ -11,15 +11,20 @@ pub use depths::depth_of;
 pub use opening::open;
 pub use soundness::is_sound;
 
-// Finished is told from the debt of a sound board, and from nothing else.
+// What finished is told from, and nothing else.
+fn owed(b: Board) -> u64
+    ensures { λ r. ⌜ r ≡ b .debt ⌝ }
+{
+    b.debt
+}
+
 pub fn finished(b: Board) -> Verdict
     ensures { λ r. ⌜ r ≡ verdict b ⌝ }
 {
-    let owed = b.debt;
     if !is_sound(b) {
         return Verdict::Refused(30);
     }
-    if owed == 0 {
+    if owed(b) == 0 {
         return Verdict::Finished;
     }
     Verdict::Working

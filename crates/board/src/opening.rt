@@ -48,10 +48,11 @@ fn are_lower(parents: &[u16]) -> bool
 {
     let mut i = 0;
     while i < parents.len() {
-        if wide(parents[i]) > i {
+        let unit = i + 1;
+        if wide(parents[i]) >= unit {
             return false;
         }
-        i += 1;
+        i = unit;
     }
     true
 }

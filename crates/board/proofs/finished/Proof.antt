@@ -1,7 +1,9 @@
--- `finished` meets its contract: a sound board by its debt, any other by 30.
-use mathlib.Core.Path.{sym, _∙_}
+-- `finished` meets its contract: a sound board by what it owes, any other by 30.
+use mathlib.Core.Path.{_≡_, sym, _∙_}
+use mathlib.Core.Bool.{true}
 use borrow.Author.Needs.{needs}
 use borrow.Author.Tests.{not-true, not-false, eq-eqb, ne-eqb}
+use Rattle.rules.specs.Sound.{sound}
 use Rattle.rules.specs.Drains.{verdict}
 use Rattle.board.proofs.finished.Statement.{statement}
 use Rattle.board.proofs.finished.Tie as tie
@@ -13,17 +15,19 @@ returns : tie.Need-returns
 unfolding verdict
 returns c = rw (sym (c .before .is-sound .ensures) ∙ not-true (c .before .is-sound .result) (c .if1 .taken))
 
+is-so : (c : tie.Else1) → sound (c .before .before .args .b) ≡ true
+is-so c = sym (c .before .is-sound .ensures) ∙ not-false (c .before .is-sound .result) (c .if1 .left)
+
+owed-requires : tie.Need-owed-requires
+owed-requires c κs = search needs
+
 returns-2 : tie.Need-returns-2
 unfolding verdict
-returns-2 c =
-    let sound = c .before .before .is-sound in
-    rw (sym (sound .ensures) ∙ not-false (sound .result) (c .before .if1 .left), eq-eqb _ _ (c .if2 .taken))
+returns-2 c = rw (is-so (c .before .before), eq-eqb _ _ (sym (c .before .owed .ensures) ∙ c .if2 .taken))
 
 returns-3 : tie.Need-returns-3
 unfolding verdict
-returns-3 c =
-    let sound = c .before .before .is-sound in
-    rw (sym (sound .ensures) ∙ not-false (sound .result) (c .before .if1 .left), ne-eqb _ _ (c .if2 .left))
+returns-3 c = rw (is-so (c .before .before), ne-eqb _ _ (λ e. c .if2 .left (c .before .owed .ensures ∙ e)))
 
 pub finished-spec : {M : Type 1} → statement M
-finished-spec = tie.close (tie.spec is-sound-requires returns returns-2 returns-3)
+finished-spec = tie.close (tie.spec is-sound-requires returns owed-requires returns-2 returns-3)
