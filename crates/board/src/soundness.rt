@@ -23,7 +23,7 @@ struct SlotCount {
     pending: [u16; 64],
 }
 
-// The tests of a row of facts, each as its definition has it.
+// All tests of a row of four facts, and below of three: the result is the row's by computation.
 fn all4(a: bool, b: bool, c: bool, d: bool) -> bool
     ensures { λ r. ⌜ r ≡ (a && (b && (c && (d && true)))) ⌝ }
 {
