@@ -1,6 +1,5 @@
 pub mod TestLaws
-pub mod JudgeLaws
-pub mod DepthLaws
+pub mod NumberTests
 pub mod OpeningLaws
 pub mod RowLaws
 pub mod SlotLaws

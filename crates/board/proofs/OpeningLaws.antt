@@ -15,7 +15,7 @@ use Rattle.rules.specs.Opening.{lowerParents, openingChecks, fresh, blankBoard,
 use Rattle.rules.specs.declared.Outcome.{Outcome}
 use Rattle.rules.proofs.FactLaws.{each-at, each-of, each-claims, each-tested, judge-passed}
 use Rattle.board.proofs.TestLaws.{not-true-false}
-use Rattle.board.proofs.JudgeLaws.{numberOf, Numbered, judged-by-number, judged-claims}
+use Rattle.rules.proofs.JudgeLaws.{numberOf, Numbered, judge-by-number, number-claims}
 
 -- the row of `lowerParents`
 abbrev lower : ℕ → ℕ → List Fact
@@ -48,10 +48,10 @@ all-placed ps i e = rw e (ap (λ (r : List ℕ). 0 ∷ r ++ replicate (63 - leng
 
 -- ---- the judgement of an opening by its number
 numbered : (m d : ℕ) (ps : List ℕ) → Numbered (openingChecks m d ps)
-numbered m d ps = (refl, (refl, (refl, (refl, (refl, tt)))))
+numbered m d ps = omega arith
 
 pub few-parents : (m d : ℕ) (ps : List ℕ) → numberOf (openingChecks m d ps) ≡ 0 → length ps ≤ 63
-few-parents m d ps e = judged-claims (openingChecks m d ps) (numbered m d ps) e .0
+few-parents m d ps e = number-claims (openingChecks m d ps) (numbered m d ps) e .0
 
 -- what an opening hands back with the answer k
 abbrev refusedWith : ℕ → Outcome
@@ -59,11 +59,11 @@ refusedWith k = record { answer = k; board = blankBoard }
 
 pub opened : (m d : ℕ) (ps : List ℕ) → numberOf (openingChecks m d ps) ≡ 0 → opening m d ps ≡ record { answer = 0; board = fresh m d ps }
 unfolding opening
-opened m d ps e = judge-passed refusedWith (openingChecks m d ps) (record { answer = 0; board = fresh m d ps }) (judged-claims (openingChecks m d ps) (numbered m d ps) e)
+opened m d ps e = judge-passed refusedWith (openingChecks m d ps) (record { answer = 0; board = fresh m d ps }) (number-claims (openingChecks m d ps) (numbered m d ps) e)
 
 pub not-opened : (m d k : ℕ) (ps : List ℕ) → numberOf (openingChecks m d ps) ≡ k → (k ≡ 0 → ⊥) → opening m d ps ≡ refusedWith k
 unfolding opening
-not-opened m d k ps e h = judged-by-number refusedWith (openingChecks m d ps) (record { answer = 0; board = fresh m d ps }) (numbered m d ps) ∙ by-number (numberOf (openingChecks m d ps)) e
+not-opened m d k ps e h = judge-by-number refusedWith (openingChecks m d ps) (record { answer = 0; board = fresh m d ps }) (numbered m d ps) ∙ by-number (numberOf (openingChecks m d ps)) e
   where
     by-number : (j : ℕ) → j ≡ k → cond (eqb j 0) (record { answer = 0; board = fresh m d ps }) (refusedWith j) ≡ refusedWith k
     by-number j q = rw (q, ne-eqb k 0 h)

@@ -1,13 +1,13 @@
 -- Rows of facts: of a slot by its kind, and of the board that has only the numbers that a row reads.
-use mathlib.Core.Path.{_≡_, refl, sym, ap, subst}
-use mathlib.Core.Bool.{Bool, true, false, cond, and-true}
+use mathlib.Core.Path.{_≡_, refl, sym, ap, subst, _∙_}
+use mathlib.Core.Bool.{Bool, true, false, cond, _&&_, and-true}
 use mathlib.Core.List.{List, [], _∷_}
 use Prim.Native.Nat.{ℕ, zero, suc, _≤_, _<_, zero-le}
 use native.Mathlib.Omega.{arith}
-use lib.Dec.{ltb}
+use lib.Dec.{ltb, leb}
 use borrow.Author.Tests.{lt-ltb, le-ltb, ne-eqb}
-use Rattle.rules.specs.Facts.{Fact, equal, holds, Claims, tests}
-use Rattle.rules.specs.Words.{isEmpty}
+use Rattle.rules.specs.Facts.{Fact, atMost, equal, holds, Claims, tests}
+use Rattle.rules.specs.Words.{isEmpty, slotAt}
 use Rattle.rules.specs.Sound.{kindRow, slotRow, lowerParent, parentRow}
 use Rattle.rules.specs.declared.Kind.{Kind}
 use Rattle.rules.specs.declared.Kind.the-variants.{Empty, Work, Return, Request, Supply}
@@ -28,8 +28,15 @@ kind-read b m y Return = refl
 kind-read b m y Request = refl
 kind-read b m y Supply = refl
 
-pub slot-read : (b : Board) (j : ℕ) (y : Slot) → slotRow (boardWith (b .n) (b .m) 0 (b .parents)) j y ≡ slotRow b j y
+slot-read : (b : Board) (j : ℕ) (y : Slot) → slotRow (boardWith (b .n) (b .m) 0 (b .parents)) j y ≡ slotRow b j y
 slot-read b j y = ap (λ (row : List Fact). cond (ltb j (b .m)) row (holds (isEmpty (y .kind)) ∷ kindRow b y Empty)) (kind-read b (b .m) y (y .kind))
+
+-- what is asked of slot j where `left` is left of the debt, as it is tested
+abbrev pub slotFacts : Board → ℕ → ℕ → List Fact
+slotFacts b left j = atMost (slotAt b j .weight) left ∷ slotRow b j (slotAt b j)
+
+pub slot-tested : (b : Board) (left j : ℕ) {r s : Bool} → r ≡ (leb (slotAt b j .weight) left && s) → s ≡ tests (slotRow (boardWith (b .n) (b .m) 0 (b .parents)) j (slotAt b j)) → r ≡ tests (slotFacts b left j)
+slot-tested b left j p q = p ∙ ap (λ (t : Bool). leb (slotAt b j .weight) left && t) (q ∙ ap tests (slot-read b j (slotAt b j)))
 
 -- ---- a parent: 0 fits everywhere, any other only a unit in use with a higher number
 zero-lower : (i p : ℕ) → p ≡ 0 → Claims (lowerParent i p)

@@ -1,10 +1,9 @@
 -- What the two passes of the soundness test say of a board, in the words of the rules.
 use mathlib.Core.Path.{_≡_}
-use mathlib.Core.Bool.{Bool, true, false, cond}
+use mathlib.Core.Bool.{Bool, true, false}
 use mathlib.Core.List.{List, []}
 use Prim.Native.Nat.{ℕ, _+_, _<_}
 use lib.ListN.{length, getD}
-use lib.Dec.{ltb}
 use Rattle.rules.specs.Facts.{Each}
 use Rattle.rules.specs.Sound.{slotRow, pending, slotsWeight, sound}
 use Rattle.rules.specs.declared.Kind.{Kind}
@@ -30,10 +29,6 @@ pendsFor y Work = 64
 pendsFor y Return = 64
 pendsFor y Request = y .from
 pendsFor y Supply = y .to
-
--- the count of a unit: every number past the last unit has the last count
-abbrev pub placeOf : ℕ → ℕ
-placeOf u = cond (ltb u 64) u 64
 
 -- what the pass over the slots found: each fits, what they leave of the debt, and what is pending for each unit
 pub record SlotsFit (b : Board) (left : ℕ) (counts : List ℕ) : Type 0 where

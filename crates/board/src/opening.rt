@@ -12,7 +12,7 @@ ghost use lib.ListN.{length, replicate};
 ghost use Rattle.rules.specs.Facts.{judge};
 ghost use Rattle.rules.specs.Opening.{lowerParents, openingChecks, blankBoard, opening};
 
-// Apart from any loop: each repeated record becomes a store for each element.
+// Apart from the loops: a repeated record becomes a store for each element.
 fn blank_board() -> Board
     ensures { λ r. ⌜ r ≡ blankBoard ⌝ }
 {
@@ -48,10 +48,11 @@ fn are_lower(parents: &[u16]) -> bool
 {
     let mut i = 0;
     while i < parents.len() {
-        if wide(parents[i]) > i {
+        let unit = i + 1;
+        if wide(parents[i]) >= unit {
             return false;
         }
-        i += 1;
+        i = unit;
     }
     true
 }
@@ -84,7 +85,7 @@ fn refusal(m: u16, d: u16, parents: &[u16]) -> u16
     0
 }
 
-// The parent entries of a board: unit 0's is 0, and those from the last unit on are 0.
+// The parent entries of a board: 0 for unit 0, then the parents, then 0.
 fn entries(parents: &[u16]) -> [u16; 64]
     requires { ⌜ length (now parents) ≤ 63 ⌝ }
     ensures { λ r. ⌜ r ≡ 0 ∷ now (parents .entry) ++ replicate (63 - length (now (parents .entry))) 0 ⌝ }

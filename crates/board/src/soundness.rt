@@ -13,17 +13,17 @@ ghost use lib.ListN.{getD};
 ghost use lib.Dec.{eqb};
 ghost use Rattle.rules.specs.Facts.{tests, oneIf};
 ghost use Rattle.rules.specs.Sound.{kindRow, slotRow, stateRow, unitRow, parentRow, sizes, sound};
-ghost use Rattle.board.specs.Passes.{Lengths, boardWith, pendsFor, placeOf, Counted};
+ghost use Rattle.board.specs.Passes.{Lengths, boardWith, pendsFor, Counted};
 
 // What the pass over the slots gives: whether every slot fits, what the slots leave of the debt, and how many requests and supplies
-// are pending for each unit. The last count is that of the slots that pend for no unit.
+// are pending for each unit.
 struct SlotCount {
     fits: bool,
     left: u64,
-    pending: [u16; 65],
+    pending: [u16; 64],
 }
 
-// The tests of a row of facts, each as its definition has it.
+// All tests of a row of four facts, and below of three: the result is the row's by computation.
 fn all4(a: bool, b: bool, c: bool, d: bool) -> bool
     ensures { λ r. ⌜ r ≡ (a && (b && (c && (d && true)))) ⌝ }
 {
@@ -138,23 +138,13 @@ fn pends_for(y: Slot) -> u16
     }
 }
 
-// The count of a unit: every number past the last unit has the last count.
-fn place(u: u16) -> usize
-    ensures { λ r. ⌜ r ≡ placeOf u ⌝ }
-{
-    if u >= 64 {
-        return 64;
-    }
-    u as usize
-}
-
 // What is left is counted down from the debt, so no sum can wrap.
 fn count_slots(b: Board) -> SlotCount
     ensures { λ r. ⌜ Counted b r (r .fits) ⌝ }
 {
     let ps = b.parents;
     let mut left = b.debt;
-    let mut pending = [0u16; 65];
+    let mut pending = [0u16; 64];
     let mut j: usize = 0;
     while j < 256 {
         let y = b.slots[j];
@@ -167,8 +157,10 @@ fn count_slots(b: Board) -> SlotCount
             };
         }
         left = left - w;
-        let at = place(pends_for(y));
-        pending[at] = pending[at] + 1;
+        let u = pends_for(y) as usize;
+        if u < 64 {
+            pending[u] = pending[u] + 1;
+        }
         j += 1;
     }
     SlotCount {

@@ -1,8 +1,8 @@
 -- Depth on a sound board: a unit is one deeper than its parent, and none is deeper than the greatest depth.
 use mathlib.Core.Path.{_≡_, refl, ap}
 use mathlib.Core.List.{List}
-use Prim.Native.Nat.{ℕ, zero, suc, _≤_, _<_, max}
-use native.Mathlib.Nat.{not-suc-le-zero, le-max-left, le-max-right, le-trans}
+use Prim.Native.Nat.{ℕ, zero, suc, _≤_, _<_, max, zero-le, suc-le-suc}
+use native.Mathlib.Nat.{not-suc-le-zero, le-refl, le-max-left, le-max-right, le-trans}
 use native.Mathlib.Decide.{ℕ-discrete}
 use native.Mathlib.Omega.{arith}
 use lib.ListN.{getD}
@@ -12,26 +12,40 @@ use Rattle.rules.specs.Depths.{depthWithin, depth, deepest}
 use Rattle.rules.proofs.SoundLaws.{parent-below}
 use Rattle.rules.specs.declared.Board.{Board}
 
--- ---- enough turns are enough: the depth does not depend on how many more are allowed
-module _ (ps : List ℕ) (n : ℕ) (lower : (i : ℕ) → 1 ≤ i → i < n → getD ps i 0 < i) where
-  depth-enough : (k j u : ℕ) → u ≤ k → u ≤ j → u < n → depthWithin k ps u ≡ depthWithin j ps u
-  unfolding depthWithin
-  depth-enough zero zero u p q l = refl
-  depth-enough zero (suc j) zero p q l = refl
-  depth-enough zero (suc j) (suc u) p q l = absurd (not-suc-le-zero p)
-  depth-enough (suc k) zero zero p q l = refl
-  depth-enough (suc k) zero (suc u) p q l = absurd (not-suc-le-zero q)
-  depth-enough (suc k) (suc j) zero p q l = refl
-  depth-enough (suc k) (suc j) (suc u) p q l =
-      let low = lower (suc u) (omega arith) l in
-      ap suc (depth-enough k j (getD ps (suc u) 0) (omega arith) (omega arith) (omega arith))
+-- ---- along lower parents: more turns than the unit's number change nothing
+-- every unit from 1 to u has a lower parent
+abbrev pub Lower : List ℕ → ℕ → Type 0
+Lower ps u = (i : ℕ) → 1 ≤ i → i ≤ u → getD ps i 0 < i
 
-  pub depth-of-parent : (u : ℕ) → 1 ≤ u → u < n → depth ps u ≡ suc (depth ps (getD ps u 0))
-  unfolding depth depthWithin
-  depth-of-parent zero p l = absurd (not-suc-le-zero p)
-  depth-of-parent (suc u) p l =
-      let low = lower (suc u) p l in
-      ap suc (depth-enough u (getD ps (suc u) 0) (getD ps (suc u) 0) (omega arith) (omega arith) (omega arith))
+same-within : (ps : List ℕ) (k l u : ℕ) → u ≤ k → u ≤ l → Lower ps u → depthWithin k ps u ≡ depthWithin l ps u
+unfolding depthWithin
+same-within ps zero zero zero p q h = refl
+same-within ps zero (suc l) zero p q h = refl
+same-within ps (suc k) zero zero p q h = refl
+same-within ps (suc k) (suc l) zero p q h = refl
+same-within ps zero l (suc u) p q h = absurd (not-suc-le-zero p)
+same-within ps (suc k) zero (suc u) p q h = absurd (not-suc-le-zero q)
+same-within ps (suc k) (suc l) (suc u) p q h =
+    let lower : getD ps (suc u) 0 < suc u = h (suc u) (suc-le-suc zero-le) (le-refl (suc u)) in
+    ap suc (same-within ps k l (getD ps (suc u) 0) (omega arith) (omega arith) (λ i a b. h i a (omega arith)))
+
+pub depth-parent : (ps : List ℕ) (u : ℕ) → 1 ≤ u → Lower ps u → depth ps u ≡ suc (depth ps (getD ps u 0))
+unfolding depth depthWithin
+depth-parent ps zero p h = absurd (not-suc-le-zero p)
+depth-parent ps (suc u) p h =
+    let lower : getD ps (suc u) 0 < suc u = h (suc u) p (le-refl (suc u)) in
+    ap suc (same-within ps u (getD ps (suc u) 0) (getD ps (suc u) 0) (omega arith) (omega arith) (λ i a b. h i a (omega arith)))
+
+-- ---- a depth is at most the unit's number, and at most the greatest
+within-at-most : (ps : List ℕ) (k u : ℕ) → depthWithin k ps u ≤ k
+unfolding depthWithin
+within-at-most ps zero u = zero-le
+within-at-most ps (suc k) zero = zero-le
+within-at-most ps (suc k) (suc u) = suc-le-suc (within-at-most ps k (getD ps (suc u) 0))
+
+pub depth-by-number : (ps : List ℕ) (u : ℕ) → depth ps u ≤ u
+unfolding depth
+depth-by-number ps u = within-at-most ps u u
 
 pub depth-at-most : (ps : List ℕ) (n i : ℕ) → i < n → depth ps i ≤ deepest ps n
 unfolding deepest
@@ -44,4 +58,4 @@ depth-at-most ps (suc n) i l = by-place (ℕ-discrete i n) (λ q. depth-at-most 
 
 -- ---- on a sound board
 pub deeper-than-parent : (b : Board) → Sound b → (u : ℕ) → 1 ≤ u → u < b .n → depth (b .parents) u ≡ suc (depth (b .parents) (parentAt b u))
-deeper-than-parent b h u p l = depth-of-parent (b .parents) (b .n) (parent-below b h) u p l
+deeper-than-parent b h u p l = depth-parent (b .parents) u p (λ i q r. parent-below b h i q (omega arith))

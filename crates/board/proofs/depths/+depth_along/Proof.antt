@@ -5,7 +5,7 @@ use native.Mathlib.Numerals.{add-one}
 use native.Mathlib.Omega.{arith}
 use lib.ListN.{getD}
 use Rattle.rules.specs.Depths.{depth, depthWithin}
-use Rattle.board.proofs.DepthLaws.{depth-parent, depth-at-most}
+use Rattle.rules.proofs.DepthLaws.{depth-parent, depth-by-number}
 use borrow.Fn.Kinds.{In}
 use borrow.Fn.PlainCycle.{Measures, is, falls, and}
 use Rattle.board.proofs.depths.depth_along.Reads as depth-along
@@ -64,7 +64,7 @@ depth-along-add-result : (t : ℕ) → depth-along-lts.Need-add-result (
 depth-along-add-result t c =
     let start = c .before .before .before in
     let lower : getD (start .args .parents .now) (start .args .u) 0 < start .args .u = start .pre .1 .1 (start .args .u) (omega arith) (omega arith) in
-    omega (arith, depth-at-most (start .args .parents .now) (getD (start .args .parents .now) (start .args .u) 0))
+    omega (arith, depth-by-number (start .args .parents .now) (getD (start .args .parents .now) (start .args .u) 0))
 
 depth-along-returns-2 : (t : ℕ) → depth-along-lts.Need-returns-2 (
   depth-along-below t,

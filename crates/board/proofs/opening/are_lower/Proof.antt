@@ -17,6 +17,9 @@ abbrev μ-loop : tie.MeasureT-loop
 loop-holds : tie.Need-loop-holds Inv-loop μ-loop
 loop-holds c = (omega arith, below-none _)
 
+add-unit : tie.Need-add-unit Inv-loop μ-loop
+add-unit c = omega arith
+
 mul-wide : tie.Need-mul-wide Inv-loop μ-loop
 mul-wide c = omega arith
 
@@ -28,9 +31,6 @@ wide-requires c κs = search needs
 
 returns : tie.Need-returns Inv-loop μ-loop
 returns c = not-lower _ (c .before .before .before .before .loop .i) (omega arith) (omega arith)
-
-add-i : tie.Need-add-i Inv-loop μ-loop
-add-i c = omega arith
 
 loop-less : tie.Need-loop-less Inv-loop μ-loop
 loop-less c = omega arith
@@ -48,11 +48,11 @@ are-lower-spec =
     Inv-loop
     μ-loop
     loop-holds
+    add-unit
     mul-wide
     shared-slice-read-wide
     wide-requires
     returns
-    add-i
     loop-less
     loop-again
     returns-2)

@@ -6,7 +6,7 @@ use lib.ListN.{length}
 use borrow.Author.Needs.{needs}
 use native.Mathlib.Omega.{arith}
 use Rattle.rules.specs.Opening.{openingChecks, fresh, blankBoard}
-use Rattle.board.proofs.JudgeLaws.{numberOf}
+use Rattle.rules.proofs.JudgeLaws.{numberOf}
 use Rattle.board.proofs.OpeningLaws.{few-parents, opened, not-opened}
 use Rattle.board.proofs.opening.open.Statement.{statement}
 use Rattle.board.proofs.opening.open.Tie as tie

@@ -2,7 +2,7 @@
 use mathlib.Core.Path.{sym, _∙_}
 use borrow.Author.Needs.{needs}
 use borrow.Author.Tests.{not-true, not-false}
-use Rattle.board.proofs.JudgeLaws.{number-tests}
+use Rattle.board.proofs.NumberTests.{number-tests}
 use Rattle.board.proofs.opening.refusal.Statement.{statement}
 use Rattle.board.proofs.opening.refusal.Tie as tie
 
