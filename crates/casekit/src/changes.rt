@@ -1,0 +1,148 @@
+// How a board differs from another: a line for each entry that does.
+use crate::words;
+use crate::words::cell;
+use crate::words::newline;
+use crate::words::tab;
+use crate::words::text;
+use rules::Board;
+use rules::Kind;
+use rules::Slot;
+use rules::State;
+use rules::UnitRecord;
+
+fn state_code(s: State) -> u8 {
+    match s {
+        State::Idle => 0,
+        State::Active => 1,
+        State::Waiting => 2,
+    }
+}
+
+fn kind_code(k: Kind) -> u8 {
+    match k {
+        Kind::Empty => 0,
+        Kind::Work => 1,
+        Kind::Return => 2,
+        Kind::Request => 3,
+        Kind::Supply => 4,
+    }
+}
+
+fn same_unit(x: UnitRecord, y: UnitRecord) -> bool {
+    let s = x.state;
+    let t = y.state;
+    x.weight == y.weight
+        && x.countdown == y.countdown
+        && x.suspended == y.suspended
+        && state_code(s) == state_code(t)
+}
+
+fn same_slot(x: Slot, y: Slot) -> bool {
+    let k = x.kind;
+    let l = y.kind;
+    x.weight == y.weight && x.from == y.from && x.to == y.to && kind_code(k) == kind_code(l)
+}
+
+// A line of its own, under the line of the row.
+fn under(t: &[u8]) {
+    newline();
+    tab();
+    text(t);
+}
+
+fn suspension(suspended: bool) {
+    if suspended {
+        text(b"suspended");
+    } else {
+        text(b"free");
+    }
+}
+
+fn tell_unit(i: usize, x: UnitRecord) {
+    let s = x.state;
+    under(b"unit");
+    cell(i as u64);
+    tab();
+    words::state(s);
+    cell(x.weight);
+    cell(x.countdown as u64);
+    tab();
+    suspension(x.suspended);
+}
+
+fn tell_slot(j: usize, y: Slot) {
+    let k = y.kind;
+    under(b"slot");
+    cell(j as u64);
+    tab();
+    words::kind(k);
+    cell(y.from as u64);
+    cell(y.to as u64);
+    cell(y.weight);
+}
+
+fn tell_parent(i: usize, p: u16) {
+    under(b"parent");
+    cell(i as u64);
+    cell(p as u64);
+}
+
+fn units_same(a: Board, b: Board) -> bool {
+    let mut same = true;
+    for i in 0..64 {
+        let x = b.units[i];
+        if !same_unit(a.units[i], x) {
+            tell_unit(i, x);
+            same = false;
+        }
+    }
+    same
+}
+
+fn slots_same(a: Board, b: Board) -> bool {
+    let mut same = true;
+    for j in 0..256 {
+        let y = b.slots[j];
+        if !same_slot(a.slots[j], y) {
+            tell_slot(j, y);
+            same = false;
+        }
+    }
+    same
+}
+
+fn parents_same(a: Board, b: Board) -> bool {
+    let mut same = true;
+    for i in 0..64 {
+        let p = b.parents[i];
+        if a.parents[i] != p {
+            tell_parent(i, p);
+            same = false;
+        }
+    }
+    same
+}
+
+fn sizes_same(a: Board, b: Board) -> bool {
+    if a.n == b.n && a.m == b.m && a.delay == b.delay {
+        return true;
+    }
+    under(b"sizes");
+    cell(b.n as u64);
+    cell(b.m as u64);
+    cell(b.delay as u64);
+    false
+}
+
+// Writes how b differs from a, or the word where they are the same. The debt is not written: it stands in the row's line.
+pub(crate) fn tell(a: Board, b: Board, word: &[u8]) {
+    let sizes = sizes_same(a, b);
+    let parents = parents_same(a, b);
+    let units = units_same(a, b);
+    let slots = slots_same(a, b);
+    if sizes && parents && units && slots && a.debt == b.debt {
+        tab();
+        text(word);
+    }
+    newline();
+}
