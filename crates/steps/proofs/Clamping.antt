@@ -1,0 +1,102 @@
+-- Clamped places do no harm on a sound board: where the place checks pass, the clamp is the identity; where one fails, the records are not used.
+use mathlib.Core.Path.{_≡_, refl, sym, ap, _∙_}
+use mathlib.Core.Bool.{cond}
+use Prim.Native.Nat.{ℕ, min, _<_, _≤_}
+use native.Mathlib.Omega.{arith}
+use lib.Dec.{eqb}
+use Rattle.rules.specs.Facts.{Claims, judge}
+use Rattle.rules.specs.Words.{unitAt, slotAt, parentAt}
+use Rattle.rules.specs.Sound.{Sound, kindRow}
+use Rattle.rules.specs.Steps.{unitOf, slotOf, placeChecks, recordRule, effectBy, applied}
+use Rattle.rules.specs.declared.Action.{Action}
+use Rattle.rules.specs.declared.Action.the-variants.{Unknown, Start, Send, Request as RequestStep, Deliver, Rest, Tick, Release}
+use Rattle.rules.specs.declared.Kind.{Kind}
+use Rattle.rules.specs.declared.Kind.the-variants.{Empty, Work, Return, Request, Supply}
+use Rattle.rules.specs.declared.Effect.{Effect}
+use Rattle.rules.specs.declared.Effect.the-variants.{Refused}
+use Rattle.rules.specs.declared.Board.{Board}
+use Rattle.rules.specs.declared.StepRecord.{StepRecord}
+use Rattle.rules.proofs.FactLaws.{asked}
+use Rattle.rules.proofs.SoundLaws.{slot-row, parent-below}
+use Rattle.steps.specs.Fields.{unitBy}
+use Rattle.steps.proofs.Judging.{judge-map, judge-same}
+
+-- the number that refuses the place, or 0
+abbrev pub placeNumber : Board → StepRecord → Action → ℕ
+placeNumber b r a = judge (λ k. k) (placeChecks (b .n) (b .m) r a) 0
+
+-- the effect unless the place is refused
+abbrev pub unless : ℕ → Effect → Effect
+unless k e = cond (eqb k 0) e (Refused k)
+
+-- the rule on the records at a unit and a slot
+abbrev pub ruleAt : Board → StepRecord → Action → ℕ → ℕ → Effect
+ruleAt b r a u s = recordRule (b .debt) (b .delay) r (unitAt b u) (parentAt b u) (slotAt b s) a
+
+-- 13 and 14 are not 0, so the number says which check failed
+placed : (b : Board) (r : StepRecord) (e : Effect) (a : Action) → unless (placeNumber b r a) e ≡ judge Refused (placeChecks (b .n) (b .m) r a) e
+placed b r e a = judge-map (λ (k : ℕ). unless k e) (λ k. k) (placeChecks (b .n) (b .m) r a) 0 ∙ by-action a
+  where
+    by-action : (a : Action) → judge (λ k. unless k e) (placeChecks (b .n) (b .m) r a) e ≡ judge Refused (placeChecks (b .n) (b .m) r a) e
+    by-action Unknown = refl
+    by-action Start = refl
+    by-action Send = refl
+    by-action RequestStep = refl
+    by-action Deliver = refl
+    by-action Rest = refl
+    by-action Tick = refl
+    by-action Release = refl
+
+unit-is : (b : Board) (r : StepRecord) (a : Action) → unitBy r (slotAt b (slotOf r a) .to) a ≡ unitOf b r a
+unit-is b r Unknown = refl
+unit-is b r Start = refl
+unit-is b r Send = refl
+unit-is b r RequestStep = refl
+unit-is b r Deliver = refl
+unit-is b r Rest = refl
+unit-is b r Tick = refl
+unit-is b r Release = refl
+
+module _ (b : Board) (h : Sound b) where
+  -- a message's receiver is a unit in use
+  receiver-in-use : (j : ℕ) → j < b .m → slotAt b j .to < b .n
+  receiver-in-use j l = by-kind (slotAt b j .kind) (slot-row b h j l)
+    where
+      by-kind : (k : Kind) → Claims (kindRow b (slotAt b j) k) → slotAt b j .to < b .n
+      by-kind Empty p = omega (arith, h .s1-sizes, p)
+      by-kind Work p = p .1 .0
+      by-kind Return p = omega (arith, p, parent-below b h (slotAt b j .from) (p .0) (p .1 .0))
+      by-kind Request p = omega (arith, h .s1-sizes, p)
+      by-kind Supply p = p .1 .0
+
+  -- a step that passes its place checks has its unit and its slot within the arrays
+  within : (r : StepRecord) (a : Action) → Claims (asked (placeChecks (b .n) (b .m) r a)) → (unitOf b r a ≤ 63) × (slotOf r a ≤ 255)
+  within r Unknown p = omega arith
+  within r Start p = omega arith
+  within r Send p = omega arith
+  within r RequestStep p = omega arith
+  within r Deliver p = omega (arith, receiver-in-use (r .slot) (p .0))
+  within r Rest p = omega arith
+  within r Tick p = omega arith
+  within r Release p = omega arith
+
+  -- the rule at clamped places, applied there, is the step: a refused effect is applied alike at any places
+  module _ (r : StepRecord) (a : Action) (u s : ℕ) (slot-is : s ≡ min (slotOf r a) 255) (unit-at : u ≡ min (unitBy r (slotAt b s .to) a) 63) where
+    same-slot : Claims (asked (placeChecks (b .n) (b .m) r a)) → s ≡ slotOf r a
+    same-slot p = omega (arith, within r a p, slot-is)
+
+    same-unit : Claims (asked (placeChecks (b .n) (b .m) r a)) → u ≡ unitOf b r a
+    same-unit p =
+        let e : unitBy r (slotAt b s .to) a ≡ unitOf b r a = ap (λ (j : ℕ). unitBy r (slotAt b j .to) a) (same-slot p) ∙ unit-is b r a in
+        omega (arith, within r a p, unit-at, e)
+
+    pub clamped-step : (k : ℕ) (e f : Effect) → k ≡ placeNumber b r a → e ≡ ruleAt b r a u s → f ≡ unless k e → applied b u s f ≡ applied b (unitOf b r a) (slotOf r a) (effectBy b r a)
+    unfolding applied
+    clamped-step k e f k-is e-is f-is =
+        let cs = placeChecks (b .n) (b .m) r a in
+        let judged : f ≡ judge Refused cs (ruleAt b r a u s) = f-is ∙ ap (λ (j : ℕ). unless j e) k-is ∙ ap (λ (x : Effect). unless (placeNumber b r a) x) e-is ∙ placed b r (ruleAt b r a u s) a in
+        ap (applied b u s) judged
+        ∙ judge-map (applied b u s) Refused cs (ruleAt b r a u s)
+        ∙ judge-same (λ j. record { answer = j; board = b }) cs (applied b u s (ruleAt b r a u s)) (applied b (unitOf b r a) (slotOf r a) (ruleAt b r a (unitOf b r a) (slotOf r a)))
+        (λ p. ap (λ (i : ℕ). applied b i s (ruleAt b r a i s)) (same-unit p) ∙ ap (λ (j : ℕ). applied b (unitOf b r a) j (ruleAt b r a (unitOf b r a) j)) (same-slot p))
+        ∙ sym (judge-map (applied b (unitOf b r a) (slotOf r a)) Refused cs (ruleAt b r a (unitOf b r a) (slotOf r a)))

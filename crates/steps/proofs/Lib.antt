@@ -1,0 +1,4 @@
+pub mod Flags
+pub mod Judging
+pub mod Clamping
+pub mod UsedFields

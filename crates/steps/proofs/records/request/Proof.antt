@@ -1,0 +1,49 @@
+-- `request` meets its contract: each return rewrites with the tests that led to it.
+use mathlib.Core.Path.{_≡_}
+use mathlib.Core.Bool.{true}
+use borrow.Author.Tests.{le-leb, lt-leb}
+use Rattle.rules.specs.Words.{isActive}
+use Rattle.steps.proofs.Flags.{said-yes, said-no}
+use borrow.Author.Needs.{needs}
+use Rattle.steps.proofs.records.request.Statement.{statement}
+use Rattle.steps.proofs.records.request.Tie as tie
+
+is-active-requires : tie.Need-is-active-requires
+is-active-requires c κs = search needs
+
+returns : tie.Need-returns
+returns c = simp (said-no (c .before .is-active .ensures) (c .if1 .taken))
+
+active : (c : tie.Else1) → isActive (c .before .before .args .x .state) ≡ true
+active c = said-yes (c .before .is-active .ensures) (c .if1 .left)
+
+returns-2 : tie.Need-returns-2
+returns-2 c = simp (active (c .before), c .if2 .taken)
+
+returns-3 : tie.Need-returns-3
+returns-3 c = simp (active (c .before .before .before), c .before .before .if2 .left, lt-leb _ _ (c .if3 .taken))
+
+is-empty-requires : tie.Need-is-empty-requires
+is-empty-requires c κs = search needs
+
+returns-4 : tie.Need-returns-4
+returns-4 c = let d = c .before .before in simp (active (d .before .before .before), d .before .before .if2 .left, le-leb _ _ (d .if3 .left), said-no (c .before .is-empty .ensures) (c .if4 .taken))
+
+message-requires : tie.Need-message-requires
+message-requires c κs = search needs
+
+returns-5 : tie.Need-returns-5
+returns-5 c = let e = c .before in let d = e .before .before in simp (c .message .ensures, active (d .before .before .before), d .before .before .if2 .left, le-leb _ _ (d .if3 .left), said-yes (e .before .is-empty .ensures) (e .if4 .left))
+
+pub request-spec : {M : Type 1} → statement M
+request-spec =
+    tie.close
+    (tie.spec
+    is-active-requires
+    returns
+    returns-2
+    returns-3
+    is-empty-requires
+    returns-4
+    message-requires
+    returns-5)
