@@ -1,10 +1,13 @@
 // A step by value: on a board known to be sound, and on any board.
-ghost use mathlib.Core.Path.{_≡_};
-ghost use mathlib.Core.Bool.{true, cond};
-ghost use lib.Dec.{eqb};
-ghost use Rattle.rules.specs.Sound.{sound};
-ghost use Rattle.rules.specs.Steps.{actionOf, soundStep};
-ghost use Rattle.rules.specs.declared.Effect.the-variants.{Refused};
+mod delivering;
+mod made;
+mod places;
+mod records;
+mod requesting;
+mod resting;
+mod sending;
+
+use board::is_sound;
 use places::clamped;
 use places::place_refusal;
 use places::slot_of;
@@ -15,9 +18,12 @@ use rules::Board;
 use rules::Effect;
 use rules::Outcome;
 use rules::StepRecord;
-
-mod places;
-mod records;
+ghost use mathlib.Core.Path.{_≡_};
+ghost use mathlib.Core.Bool.{true, cond};
+ghost use lib.Dec.{eqb};
+ghost use Rattle.rules.specs.Sound.{sound};
+ghost use Rattle.rules.specs.Steps.{actionOf, soundStep, step};
+ghost use Rattle.rules.specs.declared.Effect.the-variants.{Refused};
 
 // A step's kind by its number; every number outside 1 to 7 is unknown.
 pub(crate) fn action(kind: u16) -> Action
@@ -78,4 +84,18 @@ pub(crate) fn sound_step(mut b: Board, r: StepRecord) -> Outcome
         }
     }
     Outcome { answer, board: b }
+}
+
+// A step on any board: one that is not sound is refused before all else.
+pub fn step(b: Board, r: StepRecord) -> Outcome
+    ensures { λ o. ⌜ o ≡ step b r ⌝ }
+{
+    if is_sound(b) {
+        sound_step(b, r)
+    } else {
+        Outcome {
+            answer: 30,
+            board: b,
+        }
+    }
 }
