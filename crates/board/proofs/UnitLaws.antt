@@ -75,17 +75,16 @@ module _ (b : Board) (counts : List ℕ) (left i : ℕ) (h : UnitsSeen b counts 
 
   -- a sound board refuses no unit
   pub next-fits : i < 64 → Sound b → Claims (unitFacts b left (getD counts i 0) i)
-  next-fits l s =
+  next-fits l s = (
+    omega (arith, weight-next l, h .leaves, s .s5-s6-debt),
+    (
+      claims-tested (parentRow b i (parentAt b i)) (each-at (parentRow b) (b .parents) i 0 (omega (arith, h .ranges)) (s .s1-parents)),
       (
-        omega (arith, weight-next l, h .leaves, s .s5-s6-debt),
-        (
-          claims-tested (parentRow b i (parentAt b i)) (each-at (parentRow b) (b .parents) i 0 (omega (arith, h .ranges)) (s .s1-parents)),
-          (
-            h .counted i l ∙ each-at (pendingRow b) (b .units) i blankUnit (omega (arith, h .ranges)) (s .s4-pending) .0,
-            (claims-tested (unitRow b i (unitAt b i)) (each-at (unitRow b) (b .units) i blankUnit (omega (arith, h .ranges)) (s .s2-units)), tt),
-          ),
-        ),
-      )
+        h .counted i l ∙ each-at (pendingRow b) (b .units) i blankUnit (omega (arith, h .ranges)) (s .s4-pending) .0,
+        (claims-tested (unitRow b i (unitAt b i)) (each-at (unitRow b) (b .units) i blankUnit (omega (arith, h .ranges)) (s .s2-units)), tt),
+      ),
+    ),
+  )
 
   weight-end : 64 ≤ i → unitsWeight (drop i (b .units)) ≡ 0
   unfolding unitsWeight

@@ -15,10 +15,11 @@ pub use soundness::is_sound;
 pub fn finished(b: Board) -> Verdict
     ensures { λ r. ⌜ r ≡ verdict b ⌝ }
 {
+    let owed = b.debt;
     if !is_sound(b) {
         return Verdict::Refused(30);
     }
-    if b.debt == 0 {
+    if owed == 0 {
         return Verdict::Finished;
     }
     Verdict::Working
