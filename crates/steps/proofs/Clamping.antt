@@ -21,12 +21,8 @@ use Rattle.rules.proofs.SoundLaws.{slot-row, parent-below}
 use Rattle.steps.specs.Fields.{unitBy}
 use Rattle.steps.proofs.Judging.{judge-map, judge-same}
 
--- the number that refuses the place, or 0
-abbrev pub placeNumber : Board → StepRecord → Action → ℕ
-placeNumber b r a = judge (λ k. k) (placeChecks (b .n) (b .m) r a) 0
-
 -- the effect unless the place is refused
-abbrev pub unless : ℕ → Effect → Effect
+abbrev unless : ℕ → Effect → Effect
 unless k e = cond (eqb k 0) e (Refused k)
 
 -- the rule on the records at a unit and a slot
@@ -34,10 +30,10 @@ abbrev pub ruleAt : Board → StepRecord → Action → ℕ → ℕ → Effect
 ruleAt b r a u s = recordRule (b .debt) (b .delay) r (unitAt b u) (parentAt b u) (slotAt b s) a
 
 -- 13 and 14 are not 0, so the number says which check failed
-placed : (b : Board) (r : StepRecord) (e : Effect) (a : Action) → unless (placeNumber b r a) e ≡ judge Refused (placeChecks (b .n) (b .m) r a) e
-placed b r e a = judge-map (λ (k : ℕ). unless k e) (λ k. k) (placeChecks (b .n) (b .m) r a) 0 ∙ by-action a
+placed : (n m : ℕ) (r : StepRecord) (e : Effect) (a : Action) → unless (judge (λ k. k) (placeChecks n m r a) 0) e ≡ judge Refused (placeChecks n m r a) e
+placed n m r e a = judge-map (λ (k : ℕ). unless k e) (λ k. k) (placeChecks n m r a) 0 ∙ by-action a
   where
-    by-action : (a : Action) → judge (λ k. unless k e) (placeChecks (b .n) (b .m) r a) e ≡ judge Refused (placeChecks (b .n) (b .m) r a) e
+    by-action : (a : Action) → judge (λ k. unless k e) (placeChecks n m r a) e ≡ judge Refused (placeChecks n m r a) e
     by-action Unknown = refl
     by-action Start = refl
     by-action Send = refl
@@ -46,6 +42,9 @@ placed b r e a = judge-map (λ (k : ℕ). unless k e) (λ k. k) (placeChecks (b 
     by-action Rest = refl
     by-action Tick = refl
     by-action Release = refl
+
+pub placed-effect : (n m : ℕ) (r : StepRecord) (a : Action) (k : ℕ) (e f : Effect) → k ≡ judge (λ j. j) (placeChecks n m r a) 0 → f ≡ unless k e → f ≡ judge Refused (placeChecks n m r a) e
+placed-effect n m r a k e f k-is f-is = f-is ∙ ap (λ (j : ℕ). unless j e) k-is ∙ placed n m r e a
 
 unit-is : (b : Board) (r : StepRecord) (a : Action) → unitBy r (slotAt b (slotOf r a) .to) a ≡ unitOf b r a
 unit-is b r Unknown = refl
@@ -90,13 +89,11 @@ module _ (b : Board) (h : Sound b) where
         let e : unitBy r (slotAt b s .to) a ≡ unitOf b r a = ap (λ (j : ℕ). unitBy r (slotAt b j .to) a) (same-slot p) ∙ unit-is b r a in
         omega (arith, within r a p, unit-at, e)
 
-    pub clamped-step : (k : ℕ) (e f : Effect) → k ≡ placeNumber b r a → e ≡ ruleAt b r a u s → f ≡ unless k e → applied b u s f ≡ applied b (unitOf b r a) (slotOf r a) (effectBy b r a)
+    pub clamped-step : applied b u s (judge Refused (placeChecks (b .n) (b .m) r a) (ruleAt b r a u s)) ≡ applied b (unitOf b r a) (slotOf r a) (effectBy b r a)
     unfolding applied
-    clamped-step k e f k-is e-is f-is =
+    clamped-step =
         let cs = placeChecks (b .n) (b .m) r a in
-        let judged : f ≡ judge Refused cs (ruleAt b r a u s) = f-is ∙ ap (λ (j : ℕ). unless j e) k-is ∙ ap (λ (x : Effect). unless (placeNumber b r a) x) e-is ∙ placed b r (ruleAt b r a u s) a in
-        ap (applied b u s) judged
-        ∙ judge-map (applied b u s) Refused cs (ruleAt b r a u s)
+        judge-map (applied b u s) Refused cs (ruleAt b r a u s)
         ∙ judge-same (λ j. record { answer = j; board = b }) cs (applied b u s (ruleAt b r a u s)) (applied b (unitOf b r a) (slotOf r a) (ruleAt b r a (unitOf b r a) (slotOf r a)))
         (λ p. ap (λ (i : ℕ). applied b i s (ruleAt b r a i s)) (same-unit p) ∙ ap (λ (j : ℕ). applied b (unitOf b r a) j (ruleAt b r a (unitOf b r a) j)) (same-slot p))
         ∙ sym (judge-map (applied b (unitOf b r a) (slotOf r a)) Refused cs (ruleAt b r a (unitOf b r a) (slotOf r a)))
