@@ -3,3 +3,4 @@ pub mod Judging
 pub mod Clamping
 pub mod UsedFields
 pub mod Changing
+pub mod BatchLaws

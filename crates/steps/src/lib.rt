@@ -1,4 +1,5 @@
-// A step by value: on a board known to be sound, and on any board.
+// A step by value: on a board known to be sound, and on any board; and a run over a batch of steps.
+mod batch;
 mod changes;
 mod delivering;
 mod made;
@@ -8,6 +9,7 @@ mod requesting;
 mod resting;
 mod sending;
 
+pub use batch::run_batch;
 use board::is_sound;
 use changes::change_at;
 use changes::slot_place;
