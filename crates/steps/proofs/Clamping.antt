@@ -21,17 +21,16 @@ use Rattle.rules.proofs.SoundLaws.{slot-row, parent-below}
 use Rattle.rules.proofs.JudgeLaws.{judge-by-number, judge-map, judge-same}
 use Rattle.rules.proofs.Accepted.{place-numbered}
 
--- the number that refuses the place, or 0
-abbrev pub placeNumber : Board → StepRecord → Action → ℕ
-placeNumber b r a = judge (λ k. k) (placeChecks (b .n) (b .m) r a) 0
-
 -- the effect unless the place is refused
-abbrev pub unless : ℕ → Effect → Effect
+abbrev unless : ℕ → Effect → Effect
 unless k e = cond (eqb k 0) e (Refused k)
 
 -- the rule on the records at a unit and a slot
 abbrev pub ruleAt : Board → StepRecord → Action → ℕ → ℕ → Effect
 ruleAt b r a u s = recordRule (b .debt) (b .delay) r (unitAt b u) (parentAt b u) (slotAt b s) a
+
+pub placed-effect : (n m : ℕ) (r : StepRecord) (a : Action) (k : ℕ) (e f : Effect) → k ≡ judge (λ j. j) (placeChecks n m r a) 0 → f ≡ unless k e → f ≡ judge Refused (placeChecks n m r a) e
+placed-effect n m r a k e f k-is f-is = f-is ∙ ap (λ (j : ℕ). unless j e) k-is ∙ sym (judge-by-number Refused (placeChecks n m r a) e (place-numbered n m r a))
 
 module _ (b : Board) (h : Sound b) where
   -- a message's receiver is a unit in use
@@ -66,13 +65,11 @@ module _ (b : Board) (h : Sound b) where
         let e : unitBy r (slotAt b s .to) a ≡ unitOf b r a = ap (λ (j : ℕ). unitBy r (slotAt b j .to) a) (same-slot p) in
         omega (arith, within r a p, unit-at, e)
 
-    pub clamped-step : (k : ℕ) (e f : Effect) → k ≡ placeNumber b r a → e ≡ ruleAt b r a u s → f ≡ unless k e → applied b u s f ≡ applied b (unitOf b r a) (slotOf r a) (effectBy b r a)
+    pub clamped-step : applied b u s (judge Refused (placeChecks (b .n) (b .m) r a) (ruleAt b r a u s)) ≡ applied b (unitOf b r a) (slotOf r a) (effectBy b r a)
     unfolding applied
-    clamped-step k e f k-is e-is f-is =
+    clamped-step =
         let cs = placeChecks (b .n) (b .m) r a in
-        let judged : f ≡ judge Refused cs (ruleAt b r a u s) = f-is ∙ ap (λ (j : ℕ). unless j e) k-is ∙ ap (λ (x : Effect). unless (placeNumber b r a) x) e-is ∙ sym (judge-by-number Refused cs (ruleAt b r a u s) (place-numbered (b .n) (b .m) r a)) in
-        ap (applied b u s) judged
-        ∙ judge-map (applied b u s) Refused cs (ruleAt b r a u s)
+        judge-map (applied b u s) Refused cs (ruleAt b r a u s)
         ∙ judge-same (λ j. record { answer = j; board = b }) cs (applied b u s (ruleAt b r a u s)) (applied b (unitOf b r a) (slotOf r a) (ruleAt b r a (unitOf b r a) (slotOf r a)))
         (λ p. ap (λ (i : ℕ). applied b i s (ruleAt b r a i s)) (same-unit p) ∙ ap (λ (j : ℕ). applied b (unitOf b r a) j (ruleAt b r a (unitOf b r a) j)) (same-slot p))
         ∙ sym (judge-map (applied b (unitOf b r a) (slotOf r a)) Refused cs (ruleAt b r a (unitOf b r a) (slotOf r a)))

@@ -1,2 +1,4 @@
 pub mod Flags
 pub mod Clamping
+pub mod Changing
+pub mod BatchLaws

@@ -1,4 +1,6 @@
-// A step by value: on a board known to be sound, and on any board.
+// A step by value: on a board known to be sound, and on any board; and a run over a batch of steps.
+mod batch;
+mod changes;
 mod delivering;
 mod made;
 mod places;
@@ -7,23 +9,19 @@ mod requesting;
 mod resting;
 mod sending;
 
+pub use batch::run_batch;
 use board::is_sound;
-use places::clamped;
-use places::place_refusal;
-use places::slot_of;
-use places::unit_of;
-use records::record_rule;
+use changes::change_at;
+use changes::slot_place;
+use changes::unit_place;
 use rules::Action;
 use rules::Board;
-use rules::Effect;
 use rules::Outcome;
 use rules::StepRecord;
 ghost use mathlib.Core.Path.{_≡_};
-ghost use mathlib.Core.Bool.{true, cond};
-ghost use lib.Dec.{eqb};
+ghost use mathlib.Core.Bool.{true};
 ghost use Rattle.rules.specs.Sound.{sound};
 ghost use Rattle.rules.specs.Steps.{actionOf, soundStep, step};
-ghost use Rattle.rules.specs.declared.Effect.the-variants.{Refused};
 
 // A step's kind by its number; every number outside 1 to 7 is unknown.
 pub(crate) fn action(kind: u16) -> Action
@@ -41,49 +39,26 @@ pub(crate) fn action(kind: u16) -> Action
     }
 }
 
-// The effect, unless the place was refused.
-fn unless_refused(k: u16, e: Effect) -> Effect
-    ensures { λ f. ⌜ f ≡ cond (eqb k 0) e (Refused k) ⌝ }
-{
-    if k == 0 {
-        return e;
-    }
-    Effect::Refused(k)
-}
-
-// A step on a board known to be sound. A refused place is clamped, so that its records can be read and left unused.
+// A step on a board known to be sound.
 pub(crate) fn sound_step(mut b: Board, r: StepRecord) -> Outcome
     requires { ⌜ sound b ≡ true ⌝ }
     ensures { λ o. ⌜ o ≡ soundStep b r ⌝ }
 {
-    let a = action(r.kind);
-    let s = clamped(slot_of(r, a), 255);
+    let s = slot_place(r);
     let y = b.slots[s];
-    let u = clamped(unit_of(r, y.to, a), 63);
+    let u = unit_place(r, y.to);
     let x = b.units[u];
     let p = b.parents[u];
-    let k = place_refusal(b.n, b.m, r, a);
-    let e = unless_refused(k, record_rule(b.debt, b.delay, r, x, p, y, a));
-    let mut answer: u16 = 0;
-    match e {
-        Effect::Refused(k) => {
-            answer = k;
-        }
-        Effect::OnUnit(x, debt) => {
-            b.units[u] = x;
-            b.debt = debt;
-        }
-        Effect::OnSlot(y, debt) => {
-            b.slots[s] = y;
-            b.debt = debt;
-        }
-        Effect::OnBoth(x, y, debt) => {
-            b.units[u] = x;
-            b.slots[s] = y;
-            b.debt = debt;
-        }
+    let c = change_at(b.n, b.m, b.debt, b.delay, r, x, p, y);
+    let unit = c.unit;
+    let slot = c.slot;
+    b.units[u] = unit;
+    b.slots[s] = slot;
+    b.debt = c.debt;
+    Outcome {
+        answer: c.answer,
+        board: b,
     }
-    Outcome { answer, board: b }
 }
 
 // A step on any board: one that is not sound is refused before all else.

@@ -1,7 +1,7 @@
 -- `unless_refused` meets its contract: the test is the definition's.
 use borrow.Author.Tests.{eq-eqb, ne-eqb}
-use Rattle.steps.proofs.unless_refused.Statement.{statement}
-use Rattle.steps.proofs.unless_refused.Tie as tie
+use Rattle.steps.proofs.changes.unless_refused.Statement.{statement}
+use Rattle.steps.proofs.changes.unless_refused.Tie as tie
 
 returns : tie.Need-returns
 returns c = simp (eq-eqb _ _ (c .if1 .taken))

@@ -1,0 +1,232 @@
+use mathlib.Core.Path.{_≡_, refl, sym, ap, subst, _∙_}
+use mathlib.Core.List.{List}
+use Prim.Native.Nat.{ℕ, _≤_, _<_, _-_}
+use native.Mathlib.Omega.{arith}
+use lib.ListN.{length, getD, drop, take}
+use borrow.Author.Needs.{needs}
+use Rattle.rules.specs.Sound.{Sound}
+use Rattle.rules.specs.declared.Board.{Board}
+use Rattle.rules.specs.declared.StepRecord.{StepRecord}
+use Rattle.rules.specs.declared.Batch.{Batch}
+use Rattle.rules.specs.Steps.{step}
+use Rattle.rules.specs.Runs.{batch}
+use Rattle.rules.specs.declared.Outcome.{Outcome}
+use Rattle.rules.specs.declared.Ran.{Ran}
+use Rattle.rules.proofs.SoundLaws.{sound-claims}
+use Rattle.rules.proofs.Accepted.{step-sound}
+use Rattle.rules.proofs.ListLaws.{step-keeps-sound}
+use Rattle.steps.proofs.Changing.{stored, place-weights, stored-step}
+use Rattle.steps.proofs.BatchLaws.{filled, blankStep, counted-small, filled-turn, filled-end, unlessUnsound, turns-few, turns-sound, filled-batch, batch-carries}
+use Rattle.steps.proofs.batch.run_batch.Statement.{statement}
+use Rattle.steps.proofs.batch.run_batch.Tie as tie
+use Rattle.steps.proofs.batch.run_batch.Reads as reads
+use Rattle.steps.proofs.batch.run_batch.Lts as lts
+use Rattle.board.proofs.is_sound.Reads as is-sound-reads
+use Rattle.steps.proofs.batch.accepted.Reads as accepted-reads
+use Rattle.steps.proofs.batch.ran_on.Reads as ran-on-reads
+use Rattle.steps.proofs.batch.turns.Reads as turns-reads
+use Rattle.steps.proofs.changes.change_at.Reads as change-at-reads
+use Rattle.steps.proofs.changes.slot_place.Reads as slot-place-reads
+use Rattle.steps.proofs.changes.unit_place.Reads as unit-place-reads
+
+-- at the head of each turn: what is left from here gives what the whole gives, and the board is sound while a step is left
+record Turn (whole : Batch) (rs : List StepRecord) (n : ℕ) (b : Board) (answers debts : List ℕ) (zeros i : ℕ) : Type 0 where
+  few : n ≤ 64
+  within : i ≤ n
+  counts : zeros ≤ i
+  is-sound : i < n → Sound b
+  gives : filled b (drop i rs) zeros i answers debts ≡ whole
+
+abbrev Inv-loop : tie.InvT-loop
+Inv-loop count b₀ steps sound n answers₀ debts₀ zeros₀ i₀ b answers debts zeros i = Turn (filled b₀ (take n steps) 0 0 answers₀ debts₀) (take n steps) n b answers debts zeros i
+
+abbrev μ-loop : tie.MeasureT-loop
+μ-loop count b₀ steps sound n answers₀ debts₀ zeros₀ i₀ b answers debts zeros i = n - i
+
+is-sound-requires : tie.Need-is-sound-requires Inv-loop μ-loop
+is-sound-requires c κs = search needs
+
+turns-requires : tie.Need-turns-requires Inv-loop μ-loop
+turns-requires c κs = search needs
+
+loop-holds : tie.Need-loop-holds Inv-loop μ-loop
+loop-holds c =
+    record {
+      few = omega (arith, c .turns .ensures, turns-few (c .before .is-sound .result) (c .before .before .args .count));
+      within = omega arith;
+      counts = omega arith;
+      is-sound = λ p. sound-claims (c .before .before .args .t1) (sym (c .before .is-sound .ensures) ∙ turns-sound (c .before .is-sound .result) (c .before .before .args .count) (omega (arith, p, c .turns .ensures)));
+      gives = refl;
+    }
+
+mul-r : tie.Need-mul-r Inv-loop μ-loop
+mul-r c = search needs
+
+array-copy-out-r : tie.Need-array-copy-out-r Inv-loop μ-loop
+array-copy-out-r c = search needs
+
+slot-place-requires : tie.Need-slot-place-requires Inv-loop μ-loop
+slot-place-requires c κs = search needs
+
+mul-y : tie.Need-mul-y Inv-loop μ-loop
+mul-y c = search needs
+
+element-copy-out-y : tie.Need-element-copy-out-y Inv-loop μ-loop
+element-copy-out-y c = search needs
+
+unit-place-requires : tie.Need-unit-place-requires Inv-loop μ-loop
+unit-place-requires c κs = search needs
+
+mul-x : tie.Need-mul-x Inv-loop μ-loop
+mul-x c = search needs
+
+element-copy-out-x : tie.Need-element-copy-out-x Inv-loop μ-loop
+element-copy-out-x c = search needs
+
+mul-p : tie.Need-mul-p Inv-loop μ-loop
+mul-p c = search needs
+
+element-copy-out-p : tie.Need-element-copy-out-p Inv-loop μ-loop
+element-copy-out-p c = search needs
+
+-- from where the unit's place is known back to the slot's place, to the loop's head and to the start
+abbrev slot-place : tie.After-unit-place Inv-loop μ-loop → tie.After-slot-place Inv-loop μ-loop
+slot-place d = d .before .before
+
+abbrev at-loop : tie.After-unit-place Inv-loop μ-loop → tie.At-loop Inv-loop μ-loop
+at-loop d = slot-place d .before .before .before
+
+abbrev start : tie.At-loop Inv-loop μ-loop → tie.Start Inv-loop μ-loop
+start h = h .before .before .before
+
+-- what owning the steps tells: there are 64
+all-64 : (s : tie.Start Inv-loop μ-loop) → length (s .args .t2) ≡ 64
+all-64 s = search needs
+
+-- the step that is asked for
+abbrev asked : tie.After-unit-place Inv-loop μ-loop → StepRecord
+asked d = getD (start (at-loop d) .args .t2) (at-loop d .loop .i) blankStep
+
+sure : (d : tie.After-unit-place Inv-loop μ-loop) → Sound (at-loop d .loop .b)
+sure d = at-loop d .loop .inv .is-sound (slot-place d .before .before .loop-test .taken)
+
+change-at-requires : tie.Need-change-at-requires Inv-loop μ-loop
+change-at-requires c κs =
+    let d = c .before .before in
+    place-weights (at-loop d .loop .b) (asked d) (sure d) (d .unit-place .result) (slot-place d .slot-place .result) (slot-place d .slot-place .ensures) (d .unit-place .ensures)
+
+-- the change, stored, is the step
+abbrev unit-place : tie.After-change-at Inv-loop μ-loop → tie.After-unit-place Inv-loop μ-loop
+unit-place g = g .before .before .before
+
+abbrev outcome : tie.After-change-at Inv-loop μ-loop → Outcome
+outcome g = let d = unit-place g in stored (at-loop d .loop .b) (d .unit-place .result) (slot-place d .slot-place .result) (g .change-at .result)
+
+stepped : (g : tie.After-change-at Inv-loop μ-loop) → outcome g ≡ step (at-loop (unit-place g) .loop .b) (asked (unit-place g))
+stepped g =
+    let d = unit-place g in
+    stored-step (at-loop d .loop .b) (asked d) (sure d) (d .unit-place .result) (slot-place d .slot-place .result) (slot-place d .slot-place .ensures) (d .unit-place .ensures) (g .change-at .result) (g .change-at .ensures)
+    ∙ sym (step-sound (at-loop d .loop .b) (asked d) (sure d))
+
+mul-unit : tie.Need-mul-unit Inv-loop μ-loop
+mul-unit c = search needs
+
+element-set-from-unit : tie.Need-element-set-from-unit Inv-loop μ-loop
+element-set-from-unit c = search needs
+
+mul-slot : tie.Need-mul-slot Inv-loop μ-loop
+mul-slot c = search needs
+
+element-set-from-slot : tie.Need-element-set-from-slot Inv-loop μ-loop
+element-set-from-slot c = search needs
+
+mul-answers : tie.Need-mul-answers Inv-loop μ-loop
+mul-answers c = search needs
+
+array-write-answers : tie.Need-array-write-answers Inv-loop μ-loop
+array-write-answers c = search needs
+
+mul-debts : tie.Need-mul-debts Inv-loop μ-loop
+mul-debts c = search needs
+
+array-write-debts : tie.Need-array-write-debts Inv-loop μ-loop
+array-write-debts c = search needs
+
+accepted-requires : tie.Need-accepted-requires Inv-loop μ-loop
+accepted-requires c κs = search needs
+
+add-zeros : tie.Need-add-zeros Inv-loop μ-loop
+add-zeros c = omega (arith, c .accepted .ensures, counted-small (c .before .before .before .change-at .result .answer))
+
+add-i : tie.Need-add-i Inv-loop μ-loop
+add-i c = search needs
+
+loop-less : tie.Need-loop-less Inv-loop μ-loop
+loop-less c = search needs
+
+loop-again : tie.Need-loop-again Inv-loop μ-loop
+loop-again c =
+    let g = c .before .before .before in
+    let d = unit-place g in
+    let h = at-loop d in
+    record {
+      few = h .loop .inv .few;
+      within = search needs;
+      counts = omega (arith, c .accepted .ensures, counted-small (g .change-at .result .answer), h .loop .inv .counts);
+      is-sound = λ p. subst (λ (o : Outcome). Sound (o .board)) (sym (stepped g)) (step-keeps-sound (h .loop .b) (asked d) (sure d));
+      gives =
+          filled-turn (start h .args .t2) (h .before .turns .result) (h .loop .b) (h .loop .zeros) (h .loop .i) (c .accepted .result) (h .loop .answers) (h .loop .debts) (outcome g) (omega (arith, all-64 (start h))) (slot-place d .before .before .loop-test .taken) (stepped g) (c .accepted .ensures)
+          ∙ h .loop .inv .gives;
+    }
+
+ran-on-requires : tie.Need-ran-on-requires Inv-loop μ-loop
+ran-on-requires c κs = search needs
+
+returns : tie.Need-returns Inv-loop μ-loop
+returns c =
+    let h = c .before .before in
+    let b = start h .args .t1 in
+    let steps = start h .args .t2 in
+    let t = h .before .before .is-sound in
+    let n = h .before .turns in
+    let made : _ ≡ batch b (take (start h .args .count) steps) =
+        ap (λ (q : Ran). record { ran = q; board = h .loop .b; answers = h .loop .answers; debts = h .loop .debts }) (c .ran-on .ensures)
+        ∙ ap (unlessUnsound (t .result)) (sym (filled-end steps (n .result) (h .loop .b) (h .loop .zeros) (h .loop .i) (h .loop .answers) (h .loop .debts) (omega (arith, c .before .loop-test .left))) ∙ h .loop .inv .gives)
+        ∙ filled-batch b steps (start h .args .count) (t .result) (n .result) (all-64 (start h)) (t .ensures) (n .ensures) in
+    (made, batch-carries b (take (start h .args .count) steps) _ made)
+
+pub run-batch-spec : {M : Type 1} → statement M
+run-batch-spec =
+    tie.close
+    (tie.spec
+    Inv-loop
+    μ-loop
+    is-sound-requires
+    turns-requires
+    loop-holds
+    mul-r
+    array-copy-out-r
+    slot-place-requires
+    mul-y
+    element-copy-out-y
+    unit-place-requires
+    mul-x
+    element-copy-out-x
+    mul-p
+    element-copy-out-p
+    change-at-requires
+    mul-unit
+    element-set-from-unit
+    mul-slot
+    element-set-from-slot
+    mul-answers
+    array-write-answers
+    mul-debts
+    array-write-debts
+    accepted-requires
+    add-zeros
+    add-i
+    loop-less
+    loop-again
+    ran-on-requires
+    returns)

@@ -1,0 +1,31 @@
+-- What a step leaves at its places, from the records there alone.
+use Prim.Native.Nat.{ℕ, min}
+use Rattle.rules.specs.Facts.{judge}
+use Rattle.rules.specs.Steps.{actionOf, slotOf, unitBy, placeChecks, recordRule}
+use Rattle.rules.specs.declared.Effect.{Effect}
+use Rattle.rules.specs.declared.Effect.the-variants.{Refused, OnUnit, OnSlot, OnBoth}
+use Rattle.rules.specs.declared.UnitRecord.{UnitRecord}
+use Rattle.rules.specs.declared.Slot.{Slot}
+use Rattle.rules.specs.declared.StepRecord.{StepRecord}
+use Rattle.steps.specs.declared.changes.Change.{Change}
+
+-- the slot and the unit of a step as indices: past the end the last one
+abbrev pub slotPlace : StepRecord → ℕ
+slotPlace r = min (slotOf r (actionOf (r .kind))) 255
+
+abbrev pub unitPlace : StepRecord → ℕ → ℕ
+unitPlace r to = min (unitBy r to (actionOf (r .kind))) 63
+
+-- what an effect leaves of the unit x, the slot y and the debt
+abbrev pub left : Effect → UnitRecord → Slot → ℕ → Change
+left (Refused k) x y debt = record { answer = k; debt = debt; unit = x; slot = y }
+left (OnUnit unit debt) x y _ = record { answer = 0; debt = debt; unit = unit; slot = y }
+left (OnSlot slot debt) x y _ = record { answer = 0; debt = debt; unit = x; slot = slot }
+left (OnBoth unit slot debt) x y _ = record { answer = 0; debt = debt; unit = unit; slot = slot }
+
+-- the whole bracket of a step, then what its effect leaves; p is the unit's parent
+abbrev pub ruleOn : ℕ → ℕ → ℕ → ℕ → StepRecord → UnitRecord → ℕ → Slot → Effect
+ruleOn n m debt delay r x p y = judge Refused (placeChecks n m r (actionOf (r .kind))) (recordRule debt delay r x p y (actionOf (r .kind)))
+
+abbrev pub changeAt : ℕ → ℕ → ℕ → ℕ → StepRecord → UnitRecord → ℕ → Slot → Change
+changeAt n m debt delay r x p y = left (ruleOn n m debt delay r x p y) x y debt

@@ -1,0 +1,101 @@
+// What a step leaves at its places, from the records there: whoever has the board, the step or the batch, reads the records and stores the change.
+use crate::action;
+use crate::places::clamped;
+use crate::places::place_refusal;
+use crate::places::slot_of;
+use crate::places::unit_of;
+use crate::records::record_rule;
+use rules::Effect;
+use rules::Slot;
+use rules::StepRecord;
+use rules::UnitRecord;
+ghost use mathlib.Core.Path.{_≡_};
+ghost use mathlib.Core.Bool.{cond};
+ghost use Prim.Native.Nat.{_+_, _≤_};
+ghost use lib.Dec.{eqb};
+ghost use Rattle.rules.specs.Words.{ceiling};
+ghost use Rattle.rules.specs.declared.Effect.the-variants.{Refused};
+ghost use Rattle.steps.specs.Changing.{slotPlace, unitPlace, left, changeAt};
+
+// The answer, and the debt, the unit and the slot after the step: as they were where it is refused.
+pub(crate) struct Change {
+    pub(crate) answer: u16,
+    pub(crate) debt: u64,
+    pub(crate) unit: UnitRecord,
+    pub(crate) slot: Slot,
+}
+
+// The places that a step may change. A refused place is clamped, so that its record can be read and left as it was.
+pub(crate) fn slot_place(r: StepRecord) -> usize
+    ensures { λ s. ⌜ s ≡ slotPlace r ⌝ }
+{
+    clamped(slot_of(r, action(r.kind)), 255)
+}
+
+pub(crate) fn unit_place(r: StepRecord, to: u16) -> usize
+    ensures { λ u. ⌜ u ≡ unitPlace r to ⌝ }
+{
+    clamped(unit_of(r, to, action(r.kind)), 63)
+}
+
+// The effect, unless the place was refused.
+fn unless_refused(k: u16, e: Effect) -> Effect
+    ensures { λ f. ⌜ f ≡ cond (eqb k 0) e (Refused k) ⌝ }
+{
+    if k == 0 {
+        return e;
+    }
+    Effect::Refused(k)
+}
+
+// What an effect leaves of the unit x, the slot y and the debt.
+fn left(e: Effect, x: UnitRecord, y: Slot, debt: u64) -> Change
+    ensures { λ c. ⌜ c ≡ left e x y debt ⌝ }
+{
+    match e {
+        Effect::Refused(k) => Change {
+            answer: k,
+            debt,
+            unit: x,
+            slot: y,
+        },
+        Effect::OnUnit(unit, debt) => Change {
+            answer: 0,
+            debt,
+            unit,
+            slot: y,
+        },
+        Effect::OnSlot(slot, debt) => Change {
+            answer: 0,
+            debt,
+            unit: x,
+            slot,
+        },
+        Effect::OnBoth(unit, slot, debt) => Change {
+            answer: 0,
+            debt,
+            unit,
+            slot,
+        },
+    }
+}
+
+// The change that a step makes to the unit x, whose parent is p, and to the slot y, on a board with n units and m slots.
+pub(crate) fn change_at(
+    n: u16,
+    m: u16,
+    debt: u64,
+    delay: u16,
+    r: StepRecord,
+    x: UnitRecord,
+    p: u16,
+    y: Slot,
+) -> Change
+    requires { ⌜ (x .weight + y .weight ≤ debt) × (debt ≤ ceiling) ⌝ }
+    ensures { λ c. ⌜ c ≡ changeAt n m debt delay r x p y ⌝ }
+{
+    let a = action(r.kind);
+    let k = place_refusal(n, m, r, a);
+    let e = unless_refused(k, record_rule(debt, delay, r, x, p, y, a));
+    left(e, x, y, debt)
+}
