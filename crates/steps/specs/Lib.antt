@@ -1,1 +1,3 @@
 pub mod Fields
+pub mod Turns
+pub mod RunMeets

@@ -5,6 +5,7 @@ ghost use lib.Dec.{eqb};
 ghost use Rattle.rules.specs.Sound.{sound};
 ghost use Rattle.rules.specs.Steps.{actionOf, soundStep};
 ghost use Rattle.rules.specs.declared.Effect.the-variants.{Refused};
+pub use lent::{run, run_list, step_lent, RanOn};
 use places::clamped;
 use places::place_refusal;
 use places::slot_of;
@@ -16,6 +17,7 @@ use rules::Effect;
 use rules::Outcome;
 use rules::StepRecord;
 
+mod lent;
 mod places;
 mod records;
 
