@@ -28,6 +28,9 @@ use denote.Steps.{only, facts, heard, nothing}
 use denote.Struct.Struct.{Plains}
 use denote.Struct.Declared.{Declared, fields, row}
 use denote.Struct.Laws as structs
+use denote.Enum.Enum.{Few, Plainss}
+use denote.Enum.Declared.{Declared as Choices, variants, shape, row as enumRow}
+use denote.Enum.Laws as enums
 use denote.Triple.Entry.{Res, alive}
 use denote.Triple.Spec.{tripleOf}
 use denote.Triple.Statement.{Contract, Triple}
@@ -60,6 +63,16 @@ struct D L plain copyable = record {
   makes = λ 𝓤 H A W. structs.makes D plain 𝓤 H A;
   lawful = λ 𝓤 H A W. structs.lawful D L 𝓤 H A W;
   copies = λ 𝓤 H A W. structs.copy D copyable 𝓤 H A W;
+}
+
+abbrev pub enum : (D : Choices) (L : enums.Laws D) → Plainss (variants D) → Few (shape D) → enums.Copyabless (D .parts) → Data
+enum D L plain few copyable = record {
+  row = enumRow D;
+  vals = enums.vals D L;
+  tells = enums.tells D L;
+  makes = λ 𝓤 H A W. enums.makes D plain 𝓤 H A;
+  lawful = λ 𝓤 H A W. enums.lawful D L 𝓤 H A W few;
+  copies = λ 𝓤 H A W. enums.copy D copyable 𝓤 H A W;
 }
 
 -- ---- the locals of a function
@@ -125,6 +138,10 @@ module _ {M : Type 1} {𝓤 : URA M} {H : Heap 𝓤} {A : Atoms 𝓤} {K : Type 
   frees0 t = step (λ s. drop t $ free0 t $ s)
 
   module _ {E : Env 𝓤 H} where
+    -- a value that is written another way
+    pub spelled : K → {rv : RValue} {v v′ : Val} → v ≡ v′ → Rv K W Γ E rv v → Rv K W Γ E rv v′
+    spelled t {rv} e r = subst (Rv K W Γ E rv) e r
+
     -- the operand that is the local k, whose cell stands at n
     pub local-at : K → {k : ℕ} (n : ℕ) {q : Share} {v : Val} → nth 𝓤 H A n Γ ≡ ‵ (fat q (spotOf 𝓤 H E k .0) (spotOf 𝓤 H E k .1) zero v) → Opd K W Γ E (copy (place k [])) v
     local-at t n e = load t (from t (stop t)) (look t n e)
