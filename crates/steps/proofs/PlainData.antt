@@ -9,6 +9,8 @@ use Rattle.rules.proofs.Ran as N
 use Rattle.rules.proofs.Ran.Laws as N′
 use Rattle.steps.proofs.lent.Running as T
 use Rattle.steps.proofs.lent.Running.Laws as T′
+use Rattle.steps.proofs.lent.RanOn as Q
+use Rattle.steps.proofs.lent.RanOn.Laws as Q′
 use Rattle.steps.proofs.Walking.{Data, struct, enum}
 
 abbrev pub board : Data
@@ -25,3 +27,6 @@ running = struct T.the-type T′.the-laws T′.the-plain T′.the-copy
 
 abbrev pub ran : Data
 ran = enum N.the-type N′.the-laws N′.the-plain tt N′.the-copy
+
+abbrev pub ranOn : Data
+ranOn = struct Q.the-type Q′.the-laws Q′.the-plain Q′.the-copy

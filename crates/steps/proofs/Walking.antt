@@ -18,11 +18,12 @@ use ghost.Atoms.{Atoms, sem}
 use sound.WpLaws.{FmC}
 use contract.Monad.{fact}
 use types.Kit.{Given, Item, ‵, raw, _⊛_, some as anyOf, later, ⋆, nth, put, pop, push, ++⊢, Goal, Post, runs, lands, frees, allocs, aim, Seq, Step, step, _$_, _∵_, !, qed, by, move, use1, drop, split, pick, await, updating, now as at-once, show, regoal, fsplit, fjoin, done}
-use types.Run.{Opd, Opds, Rv, look, store, init, forget, stop, fld, from, load, assigns, alloc1, alloc0, free1, free0}
+use types.Run.{Opd, Opds, Rv, look, store, init, forget, stop, fld, from, load, assigns, land, alloc1, alloc0, free1, free0}
 use types.Part.{Part, whole, sub, look-in}
 use denote.RattleType.{RattleType}
 use denote.Laws.{Is, Ises, Are, Tells, Makes, Makess, Lawful, Copy, shows, owns-make}
 use denote.Plain.{UInt, uint-vals, uint-tells, uint-makes, uint-lawful, uint-copy}
+use denote.Array.{Array, array-vals, array-tells, array-makes, array-lawful, array-copy}
 use denote.Signature.{typeAt, typesAt}
 use denote.Steps.{only, facts, heard, nothing}
 use denote.Struct.Struct.{Plains}
@@ -63,6 +64,16 @@ struct D L plain copyable = record {
   makes = λ 𝓤 H A W. structs.makes D plain 𝓤 H A;
   lawful = λ 𝓤 H A W. structs.lawful D L 𝓤 H A W;
   copies = λ 𝓤 H A W. structs.copy D copyable 𝓤 H A W;
+}
+
+abbrev pub array : Data → ℕ → Data
+array D n = record {
+  row = Array (D .row) n;
+  vals = array-vals (D .vals);
+  tells = array-tells (D .row) (D .vals) (D .tells) n;
+  makes = λ 𝓤 H A W. array-makes 𝓤 H A W (D .row) (D .makes 𝓤 H A W) n;
+  lawful = λ 𝓤 H A W. array-lawful 𝓤 H A W (D .row) (D .lawful 𝓤 H A W) n;
+  copies = λ 𝓤 H A W. array-copy 𝓤 H A W (D .row) (D .copies 𝓤 H A W) n;
 }
 
 abbrev pub enum : (D : Choices) (L : enums.Laws D) → Plainss (variants D) → Few (shape D) → enums.Copyabless (D .parts) → Data
@@ -166,6 +177,14 @@ module _ {M : Type 1} {𝓤 : URA M} {H : Heap 𝓤} {A : Atoms 𝓤} {K : Type 
           → Step K W (put 𝓤 H A n (‵ (fat fullShare (spotOf 𝓤 H E k .0) (spotOf 𝓤 H E k .1) zero v)) Γ) (runs C Λ E rest q) Γ (runs C Λ E (seq (assign (place k []) rv) rest) q)
       sets t n e r wt = assigns t r (from t (stop t)) (store t n e wt)
 
+      -- what a call gave lands in the local k, whose cell stands at n
+      pub lands-at : K → {k : ℕ} {rest : Body} {v : Val} (n : ℕ) → nth 𝓤 H A n Γ ≡ ‵ (froom (spotOf 𝓤 H E k .0) (spotOf 𝓤 H E k .1) zero) → T (hasTy (spotOf 𝓤 H E k .0) v) × WT v
+          → Step K W (put 𝓤 H A n (‵ (fat fullShare (spotOf 𝓤 H E k .0) (spotOf 𝓤 H E k .1) zero v)) Γ) (runs C Λ E rest q) Γ (lands C Λ E (place k []) v rest q)
+      lands-at t n e wt = land t (from t (stop t)) (init t n e wt)
+
+      pub lands-as : K → {d : Place} {rest : Body} {v v′ : Val} → v ≡ v′ → Step K W Γ (lands C Λ E d v′ rest q) Γ (lands C Λ E d v rest q)
+      lands-as t {d} {rest} e = regoal t (λ (u : Val). lands C Λ E d u rest q) e refl
+
 -- ---- a call of a function that has plain parameters
 -- it gives a value of the type R that meets φ
 abbrev pub Answer : {M : Type 1} (𝓤 : URA M) (H : Heap 𝓤) (A : Atoms 𝓤) (R : RattleType) → (R .Denot → Type 0) → Val → SProp 𝓤
@@ -217,4 +236,4 @@ module _ {M : Type 1} {𝓤 : URA M} {H : Heap 𝓤} {A : Atoms 𝓤} {K : Type 
       told : (v : Val) → Seq K W (raw (Answer 𝓤 H A (D .row) φ v) ∷ Γ) (lands C Λ E d v rest q)
       told v = use1 W (later (anyOf (λ (r : D .row .Denot). ‵ (D .row .own r (v ∷ [])) ⊛ raw (fact 𝓤 (φ r))))) (id⊢ 𝓤 _) $ await t tt $ pick t (λ r.
           split t $ facts t (D .row) (Is (D .row)) (shows 𝓤 H A (D .row)) r (v ∷ []) (λ is. heard t (φ r) (λ said.
-          regoal t (λ (u : Val). lands C Λ E d u rest q) (ap only (D .tells r (v ∷ []) is)) refl $ k r said (subst (Is (D .row) r) (D .tells r (v ∷ []) is) is))))
+          lands-as t (ap only (D .tells r (v ∷ []) is)) $ k r said (subst (Is (D .row) r) (D .tells r (v ∷ []) is) is))))
