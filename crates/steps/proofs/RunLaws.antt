@@ -128,8 +128,7 @@ module _ (b : Board) (rs : List StepRecord) (out : List ℕ) (k n : ℕ) (k-is :
   -- refused, no turn is taken
   refused : (j : ℕ) → eqb j 0 ≡ false → k ≡ j → (e ≡ Refused j) × ((t .board ≡ b) × (ks ≡ out))
   refused j f z =
-      let none : n ≡ 0 = n-is ∙ ap (λ (i : ℕ). turnsOf i (length rs)) z ∙ ap (λ (u : Bool). cond u (length rs) 0) f in
-      (
+      let none : n ≡ 0 = n-is ∙ ap (λ (i : ℕ). turnsOf i (length rs)) z ∙ ap (λ (u : Bool). cond u (length rs) 0) f in (
         e-is ∙ ap (λ (i : ℕ). ranOf i (t .zeros)) z ∙ ap (λ (u : Bool). cond u (Zeros (t .zeros)) (Refused j)) f,
         (ap (λ (u : Running). u .board) (t-is ∙ ap (carried (begun b) rs) none), ks-is ∙ ap (written (begun b) rs out) none),
       )
@@ -138,8 +137,7 @@ module _ (b : Board) (rs : List StepRecord) (out : List ℕ) (k n : ℕ) (k-is :
   run-whole : k ≡ 0 → length rs ≤ length out → (e ≡ Zeros (zeros (answers b rs))) × ((t .board ≡ after b rs) × (ks ≡ answers b rs ++ drop (length rs) out))
   run-whole z l =
       let all : n ≡ length rs = n-is ∙ ap (λ (i : ℕ). turnsOf i (length rs)) z in
-      let t-all : t ≡ carried (begun b) rs (length rs) = t-is ∙ ap (carried (begun b) rs) all in
-      (
+      let t-all : t ≡ carried (begun b) rs (length rs) = t-is ∙ ap (carried (begun b) rs) all in (
         e-is ∙ ap (λ (i : ℕ). ranOf i (t .zeros)) z ∙ ap Zeros (ap (λ (u : Running). u .zeros) t-all ∙ all-zeros (begun b) rs ∙ omega arith),
         (
           ap (λ (u : Running). u .board) t-all ∙ all-board (begun b) rs,

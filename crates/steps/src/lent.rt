@@ -8,22 +8,11 @@ ghost use Rattle.rules.specs.Steps.{step};
 ghost use Rattle.steps.specs.Turns.{refusalOf, turnsOf, turnOf, ranOf};
 ghost use Rattle.steps.specs.RunMeets.{RunMeets};
 use crate::sound_step;
+use crate::step;
+use board::is_sound;
 use rules::Board;
-use rules::Outcome;
 use rules::Ran;
 use rules::StepRecord;
-
-fn is_sound(b: Board) -> bool
-    ensures { λ r. ⌜ r ≡ sound b ⌝ }
-{
-    b.n > 0
-}
-
-fn step(b: Board, r: StepRecord) -> Outcome
-    ensures { λ o. ⌜ o ≡ step b r ⌝ }
-{
-    Outcome { answer: r.kind, board: b }
-}
 
 // The step on a lent board, which is advanced where it is.
 pub fn step_lent(b: &mut Board, r: StepRecord) -> u16

@@ -1,11 +1,18 @@
 // A step by value: on a board known to be sound, and on any board.
-ghost use mathlib.Core.Path.{_≡_};
-ghost use mathlib.Core.Bool.{true, cond};
-ghost use lib.Dec.{eqb};
-ghost use Rattle.rules.specs.Sound.{sound};
-ghost use Rattle.rules.specs.Steps.{actionOf, soundStep};
-ghost use Rattle.rules.specs.declared.Effect.the-variants.{Refused};
-pub use lent::{run, run_list, step_lent, RanOn};
+mod delivering;
+mod lent;
+mod made;
+mod places;
+mod records;
+mod requesting;
+mod resting;
+mod sending;
+
+use board::is_sound;
+pub use lent::RanOn;
+pub use lent::run;
+pub use lent::run_list;
+pub use lent::step_lent;
 use places::clamped;
 use places::place_refusal;
 use places::slot_of;
@@ -16,10 +23,12 @@ use rules::Board;
 use rules::Effect;
 use rules::Outcome;
 use rules::StepRecord;
-
-mod lent;
-mod places;
-mod records;
+ghost use mathlib.Core.Path.{_≡_};
+ghost use mathlib.Core.Bool.{true, cond};
+ghost use lib.Dec.{eqb};
+ghost use Rattle.rules.specs.Sound.{sound};
+ghost use Rattle.rules.specs.Steps.{actionOf, soundStep, step};
+ghost use Rattle.rules.specs.declared.Effect.the-variants.{Refused};
 
 // A step's kind by its number; every number outside 1 to 7 is unknown.
 pub(crate) fn action(kind: u16) -> Action
@@ -80,4 +89,18 @@ pub(crate) fn sound_step(mut b: Board, r: StepRecord) -> Outcome
         }
     }
     Outcome { answer, board: b }
+}
+
+// A step on any board: one that is not sound is refused before all else.
+pub fn step(b: Board, r: StepRecord) -> Outcome
+    ensures { λ o. ⌜ o ≡ step b r ⌝ }
+{
+    if is_sound(b) {
+        sound_step(b, r)
+    } else {
+        Outcome {
+            answer: 30,
+            board: b,
+        }
+    }
 }

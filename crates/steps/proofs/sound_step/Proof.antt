@@ -1,6 +1,6 @@
 -- `sound_step` meets its contract: the bounds and the sums come from soundness, and each arm is the effect applied at the clamped places.
 use mathlib.Core.Path.{_≡_, sym, ap, _∙_}
-use Prim.Native.Nat.{ℕ, min}
+use Prim.Native.Nat.{ℕ, min, _<_}
 use native.Mathlib.Omega.{arith}
 use Rattle.rules.specs.Steps.{unitOf, slotOf, effectBy, effect, applied, soundStep}
 use Rattle.rules.specs.declared.Action.{Action}
@@ -47,15 +47,20 @@ element-copy-out-p c = search needs
 place-refusal-requires : tie.Need-place-refusal-requires
 place-refusal-requires c κs = search needs
 
--- where the function starts
+-- back from where the unit's place is known to where the slot's is, and to the start
+abbrev slot-place : tie.After-clamped2 → tie.After-clamped
+slot-place d = d .before .before .before
+
 abbrev start : tie.After-clamped2 → tie.Start
-start d = d .before .before .before .before .before .before
+start d = slot-place d .before .before .before
 
 record-rule-requires : tie.Need-record-rule-requires
 record-rule-requires c κs =
     let d = c .before .before .before in
     let sure = sound-claims (start d .args .t1) (start d .pre) in
-    omega (arith, weights-fit (start d .args .t1) sure (d .clamped2 .result) (d .before .before .before .clamped .result) (omega (arith, d .clamped2 .ensures)) (omega (arith, d .before .before .before .clamped .ensures)), sure .s5-s6-debt)
+    let u-fits : d .clamped2 .result < 64 = omega (arith, d .clamped2 .ensures) in
+    let s-fits : slot-place d .clamped .result < 256 = omega (arith, slot-place d .clamped .ensures) in
+    omega (arith, weights-fit (start d .args .t1) sure (d .clamped2 .result) (slot-place d .clamped .result) u-fits s-fits, sure .s5-s6-debt)
 
 unless-refused-requires : tie.Need-unless-refused-requires
 unless-refused-requires c κs = search needs
@@ -96,14 +101,17 @@ mul-y-3 c = search needs
 element-set-from-y-2 : tie.Need-element-set-from-y-2
 element-set-from-y-2 c = search needs
 
+abbrev unit-place : tie.After-unless-refused → tie.After-clamped2
+unit-place c = c .before .before .before .before .before
+
 -- the effect, applied at the clamped places, is the step
-done : (c : tie.After-unless-refused) (e : Effect) → c .unless-refused .result ≡ e → applied (start (c .before .before .before .before .before) .args .t1) (c .before .before .before .before .before .clamped2 .result) (c .before .before .before .before .before .before .before .before .clamped .result) e ≡ soundStep (start (c .before .before .before .before .before) .args .t1) (start (c .before .before .before .before .before) .args .r)
+done : (c : tie.After-unless-refused) (e : Effect) → c .unless-refused .result ≡ e → applied (start (unit-place c) .args .t1) (unit-place c .clamped2 .result) (slot-place (unit-place c) .clamped .result) e ≡ soundStep (start (unit-place c) .args .t1) (start (unit-place c) .args .r)
 unfolding soundStep effect
 done c e f =
-    let d = c .before .before .before .before .before in
+    let d = unit-place c in
+    let g = slot-place d in
     let b = start d .args .t1 in
     let r = start d .args .r in
-    let g = d .before .before .before in
     ap (applied b (d .clamped2 .result) (g .clamped .result)) (sym f)
     ∙ clamped-step b (sound-claims b (start d .pre)) r (g .before .before .action .result) (d .clamped2 .result) (g .clamped .result)
     (g .clamped .ensures ∙ ap (λ (j : ℕ). min j 255) (g .before .slot-of .ensures))

@@ -227,9 +227,13 @@ module _ {M : Type 1} (𝓤 : URA M) (H : Heap 𝓤) (A : Atoms 𝓤) (W : Given
 
   meets : Meets 𝓤 H A run-list.signature (WpFn 𝓤 H (𝓣 .C) (𝓣 .Λ) code.function) (run-list.spec 𝓤 H A mem go)
   meets =
-      walk-meets 𝓤 H A run-list.ended stayed W
-      (goes-dropped 𝓤 H A W 1 (plain (λ _. board .row)) yes (λ κs x f. refl), (goes-dropped 𝓤 H A W 1 (arrayOf (plain (λ _. stepRecord .row)) 16) yes (λ κs x f. refl),
-      (goes-dropped 𝓤 H A W 1 (plain (λ _. usize)) yes (λ κs x f. refl), (goes-gave-slice 𝓤 H A W 1 0 tt (plain (λ _. u16)), tt))))
+      walk-meets 𝓤 H A run-list.ended stayed W (
+        goes-dropped 𝓤 H A W 1 (plain (λ _. board .row)) yes (λ κs x f. refl),
+        (
+          goes-dropped 𝓤 H A W 1 (arrayOf (plain (λ _. stepRecord .row)) 16) yes (λ κs x f. refl),
+          (goes-dropped 𝓤 H A W 1 (plain (λ _. usize)) yes (λ κs x f. refl), (goes-gave-slice 𝓤 H A W 1 0 tt (plain (λ _. u16)), tt)),
+        ),
+      )
       (run-list.clauses 𝓤 H A mem go) (WpFn 𝓤 H (𝓣 .C) (𝓣 .Λ) code.function) (WpFn-mono 𝓤 H (W .laws) 𝓣 code.function) walks
 
 pub run-list-spec : {M : Type 1} → stated.statement M

@@ -14,13 +14,13 @@ use ghost.Atoms.{Atoms}
 use contract.Monad.{Fun}
 use contract.Running.{givenOf, tables, tablesOf}
 use types.Kit.{Given, ‵, _⊛_, ⋆, _$_, _∵_, !, qed, by, move, drop, split, join, fsplit, fjoin, suffices, frame, done}
-use types.Run.{look, look-raw, store-raw, init, stop, hop, from, load, of-opd, and-then, no-more, assigns, land, returns, enter, params1, pass1, pass0}
+use types.Run.{look, init, of-opd, and-then, no-more, returns, enter, params1, pass1, pass0}
 use sound.WpLaws.{FmC, fmOf, WpFn-mono}
 use denote.RattleType.{owns}
 use denote.Laws.{Is}
 use denote.Builtin.{u16}
 use denote.Ref.{RefT, MutRef, ptr-vals, mut-tells}
-use denote.Steps.{owned, nothing}
+use denote.Steps.{only, owned, nothing}
 use denote.Struct.Laws as structs
 use denote.Triple.Entry.{onEntry}
 use denote.Triple.Spec.{Meets, tripleOf}
@@ -35,13 +35,13 @@ use Rattle.rules.specs.declared.StepRecord.{StepRecord}
 use Rattle.rules.specs.declared.Outcome.{Outcome}
 use Rattle.rules.proofs.Outcome as O
 use Rattle.rules.proofs.Outcome.Laws as O′
-use Rattle.steps.proofs.Walking.{number, begins, aside, frees1, frees0, local-at, field-at, lets, Answer, gives, asks}
+use Rattle.steps.proofs.Walking.{number, begins, aside, frees1, frees0, local-at, field-at, behind, lets, stores, lands-at, Answer, gives, asks}
 use Rattle.steps.proofs.Lending.{opens-at, closes-at}
 use Rattle.steps.proofs.PlainData.{board, stepRecord, outcome}
-use Rattle.steps.proofs.lent.step as step
-use Rattle.steps.proofs.lent.step.Symbol as step-def
-use Rattle.steps.proofs.lent.step.Symbol.{name as #step}
-use Rattle.steps.proofs.lent.step.Met as step-thm
+use Rattle.steps.proofs.step as step
+use Rattle.steps.proofs.step.Symbol as step-def
+use Rattle.steps.proofs.step.Symbol.{name as #step}
+use Rattle.steps.proofs.step.Met as step-thm
 use Rattle.steps.proofs.lent.step_lent.Key.{name as #step-lent}
 use Rattle.steps.proofs.lent.step_lent as step-lent
 use Rattle.steps.proofs.lent.step_lent.Statement as stated
@@ -86,7 +86,7 @@ module _ {M : Type 1} (𝓤 : URA M) (H : Heap 𝓤) (A : Atoms 𝓤) (W : Given
 
   module _ (C : Calls 𝓤 H) (Λ : Loops 𝓤 H) (fm : FmC 𝓤 H (W .laws) C) (known : Triple 𝓤 (C #step) (Step 𝓤 H A mem run)) where
     step-gives : Is (board .row) h (board .vals h) → Is (stepRecord .row) r (stepRecord .vals r)
-        → ent 𝓤 (emp 𝓤) (C #step (Step 𝓤 H A mem run .args ((tt, tt, tt, (h, (r, tt)), (board .vals h, (stepRecord .vals r, tt))), tt)) (Answer 𝓤 H A (outcome .row) (λ x. x ≡ stepOf h r)))
+        → ent 𝓤 (emp 𝓤) (C #step (only (board .vals h) ∷ only (stepRecord .vals r) ∷ []) (Answer 𝓤 H A (outcome .row) (λ x. x ≡ stepOf h r)))
     step-gives ih ir =
         gives 𝓤 H A step.ended (step.clauses 𝓤 H A mem run) W ((tt, tt, tt, (h, (r, tt)), (board .vals h, (stepRecord .vals r, tt))), tt) (λ x. x ≡ stepOf h r) (λ x e. id⊢ 𝓤 _)
         fm known (id⊢ 𝓤 (emp 𝓤)) (board .makes 𝓤 H A W, (stepRecord .makes 𝓤 H A W, tt)) (ih, (ir, tt)) (id⊢ 𝓤 (emp 𝓤))
@@ -100,10 +100,10 @@ module _ {M : Type 1} (𝓤 : URA M) (H : Heap 𝓤) (A : Atoms 𝓤) (W : Given
         move ! (6 ∷ 7 ∷ []) $ split ! $ move ! (1 ∷ []) $ drop ! $ move ! (1 ∷ []) $ fsplit ! $ move ! (1 ∷ []) $ drop ! $
         opens-at ! tt board h b o (λ ih. aside ! $ aside ! $
         -- [0 .. 4; lives; 6 the board's cell; 7 the open borrow]
-        lets ! 4 refl (of-opd ! (load ! (from ! (hop ! (look ! 1 refl) (stop !))) (look-raw ! 6 refl))) (board .lawful 𝓤 H A W .typed h _ ih .0) $
+        lets ! 4 refl (of-opd ! (behind ! 1 6 refl refl)) (board .lawful 𝓤 H A W .typed h _ ih .0) $
         asks ! fm _ outcome (λ x. x ≡ stepOf h r) (step-gives ih ir) (and-then ! (local-at ! 4 refl) (and-then ! (local-at ! 2 refl) (no-more !))) (λ x e ix.
-        land ! (from ! (stop !)) (init ! 3 refl (outcome .lawful 𝓤 H A W .typed x _ ix .0)) $
-        assigns ! (of-opd ! (field-at ! 3 refl refl refl)) (from ! (hop ! (look ! 1 refl) (stop !))) (store-raw ! 6 refl (board .lawful 𝓤 H A W .typed (x .board) _ (board-is x ix) .0)) $
+        lands-at ! 3 refl (outcome .lawful 𝓤 H A W .typed x _ ix .0) $
+        stores ! 1 6 refl refl (of-opd ! (field-at ! 3 refl refl refl)) (board .lawful 𝓤 H A W .typed (x .board) _ (board-is x ix) .0) $
         lets ! 0 refl (of-opd ! (field-at ! 3 refl refl refl)) (tt, record { fits = answer-is x ix .1 }) $
         -- the borrow is closed, and the locals are freed
         move ! (6 ∷ 7 ∷ []) $ closes-at ! tt board h (x .board) b o (board-is x ix) $ aside ! $ aside ! $
@@ -127,4 +127,4 @@ step-lent-spec 𝓤 H 𝓜 𝓖 𝓡 =
     entered 𝓤 H (tripleOf 𝓤 H (𝓖 .A) step-lent.signature (step-lent.spec 𝓤 H (𝓖 .A) (𝓜 .mem) (𝓡 .run)))
     (tables 𝓤 H 𝓜 𝓡 code.env .C) (tables 𝓤 H 𝓜 𝓡 code.env .Λ) #step-lent code.function (code.unfolded 𝓤 H 𝓜 𝓡)
     (meets 𝓤 H (𝓖 .A) (givenOf 𝓤 H 𝓜 𝓖) (𝓜 .mem) (𝓡 .run) (tablesOf 𝓤 H 𝓜 (tables 𝓤 H 𝓜 𝓡 code.env))
-    (cited 𝓤 H (Step 𝓤 H (𝓖 .A) (𝓜 .mem) (𝓡 .run)) 𝓜 𝓡 code.env #step step-def.routine code.calls-steps·lent·step (step-thm.met 𝓤 H 𝓜 𝓖 𝓡)))
+    (cited 𝓤 H (Step 𝓤 H (𝓖 .A) (𝓜 .mem) (𝓡 .run)) 𝓜 𝓡 code.env #step step-def.routine code.calls-steps·step (step-thm.met 𝓤 H 𝓜 𝓖 𝓡)))

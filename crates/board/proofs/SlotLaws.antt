@@ -1,0 +1,130 @@
+-- The pass over the slots: what holds once j of them are passed, and what a sound board says of the next.
+use mathlib.Core.Path.{_≡_, refl, sym, ap, subst, _∙_}
+use mathlib.Core.Bool.{Bool, true, false, cond}
+use mathlib.Core.List.{List, [], _∷_}
+use Prim.Native.Nat.{ℕ, zero, suc, _+_, _-_, _≤_, _<_}
+use native.Mathlib.Numerals.{add-one}
+use native.Mathlib.Omega.{arith}
+use lib.ListN.{length, getD, set, drop, replicate, drop-of-length-le, length-set}
+use lib.Seq.{drop-cons, getD-set-same, getD-set-other}
+use lib.Dec.{ltb, eqb}
+use borrow.Author.Count.{below-none, below-more}
+use borrow.Author.Tests.{lt-ltb, le-ltb, eqb-true, eqb-false, ne-eqb}
+use Rattle.rules.specs.Facts.{atMost, Claims, sumOf, oneIf}
+use Rattle.rules.specs.Words.{blankSlot, slotAt}
+use Rattle.rules.specs.Sound.{slotRow, pendingIn, pending, unitsWeight, slotsWeight, Sound, sound}
+use Rattle.rules.specs.declared.Kind.{Kind}
+use Rattle.rules.specs.declared.Kind.the-variants.{Empty, Work, Return, Request, Supply}
+use Rattle.rules.specs.declared.Slot.{Slot}
+use Rattle.rules.specs.declared.Board.{Board}
+use Rattle.rules.proofs.FactLaws.{each-at, each-of}
+use Rattle.rules.proofs.SoundLaws.{below-or-not}
+use Rattle.board.specs.declared.soundness.SlotCount.{SlotCount}
+use Rattle.board.specs.Passes.{Lengths, pendsFor, placeOf, SlotsFit, Counted}
+
+-- a sum over what is left of a list, one element further
+pub sum-next : {A : Type 0} (f : A → ℕ) (xs : List A) (j : ℕ) (d : A) → j < length xs → sumOf (λ k. f) (drop j xs) ≡ f (getD xs j d) + sumOf (λ k. f) (drop (j + 1) xs)
+unfolding sumOf
+sum-next f xs j d l = rw (add-one j) (ap (sumOf (λ k. f)) (drop-cons xs j d l))
+
+pub sum-end : {A : Type 0} (f : A → ℕ) (xs : List A) (j : ℕ) → length xs ≤ j → sumOf (λ k. f) (drop j xs) ≡ 0
+unfolding sumOf
+sum-end f xs j l = ap (sumOf (λ k. f)) (drop-of-length-le xs l)
+
+-- ---- the counts
+one-at-most : (t : Bool) → oneIf t ≤ 1
+one-at-most true = omega arith
+one-at-most false = omega arith
+
+zeros-at : (n i : ℕ) → _≡_ {A = ℕ} (getD (replicate n 0) i 0) 0
+zeros-at zero i = refl
+zeros-at (suc n) zero = refl
+zeros-at (suc n) (suc i) = zeros-at n i
+
+pub place-below : (u : ℕ) → placeOf u < 65
+place-below u = below-or-not u 64 (λ l. rw (lt-ltb u 64 l) (omega arith)) (λ l. rw (le-ltb u 64 l) (omega arith))
+
+place-same : (u i : ℕ) → i < 64 → eqb (placeOf u) i ≡ eqb u i
+place-same u i h = below-or-not u 64 (λ l. rw (lt-ltb u 64 l)) (λ l. rw (le-ltb u 64 l, ne-eqb 64 i (λ e. omega arith), ne-eqb u i (λ e. omega arith)))
+
+pends-in : (y : Slot) (k : Kind) (i : ℕ) → i < 64 → pendingIn i y k ≡ oneIf (eqb (pendsFor y k) i)
+pends-in y Empty i h = rw (ne-eqb 64 i (λ e. omega arith))
+pends-in y Work i h = rw (ne-eqb 64 i (λ e. omega arith))
+pends-in y Return i h = rw (ne-eqb 64 i (λ e. omega arith))
+pends-in y Request i h = refl
+pends-in y Supply i h = refl
+
+-- one more at a place adds to the count there alone
+count-more : (counts : List ℕ) (p i : ℕ) → p < length counts → getD (set counts p (getD counts p 0 + 1)) i 0 ≡ getD counts i 0 + oneIf (eqb p i)
+count-more counts p i l = by-test (eqb p i) refl
+  where
+    by-test : (t : Bool) → eqb p i ≡ t → getD (set counts p (getD counts p 0 + 1)) i 0 ≡ getD counts i 0 + oneIf t
+    by-test true e = rw (sym (eqb-true p i e)) (getD-set-same counts p (getD counts p 0 + 1) 0 l)
+    by-test false e = getD-set-other counts p i (getD counts p 0 + 1) 0 (λ q. eqb-false p i e (sym q)) ∙ omega arith
+
+-- the place of the count that slot j adds to
+abbrev pub placeAt : Board → ℕ → ℕ
+placeAt b j = placeOf (pendsFor (slotAt b j) (slotAt b j .kind))
+
+-- ---- once j slots are passed
+pub record SlotsSeen (b : Board) (left : ℕ) (counts : List ℕ) (j : ℕ) : Type 0 where
+  pub within : j ≤ 256
+  pub seen : (k : ℕ) → k < j → Claims (slotRow b k (slotAt b k))
+  pub leaves : left + slotsWeight (b .slots) ≡ b .debt + slotsWeight (drop j (b .slots))
+  pub counted : (i : ℕ) → i < 64 → getD counts i 0 + pending (drop j (b .slots)) i ≡ pending (b .slots) i
+  pub few : (i : ℕ) → getD counts i 0 ≤ j
+  pub long : length counts ≡ 65
+
+pub none-seen : (b : Board) → SlotsSeen b (b .debt) (replicate 65 0) 0
+none-seen b = record {
+  within = omega arith;
+  seen = below-none (λ k. Claims (slotRow b k (slotAt b k)));
+  leaves = refl;
+  counted = λ i l. omega (arith, zeros-at 65 i);
+  few = λ i. omega (arith, zeros-at 65 i);
+  long = refl;
+}
+
+module _ (b : Board) (lengths : Lengths b) (left : ℕ) (counts : List ℕ) (j : ℕ) (h : SlotsSeen b left counts j) where
+  weight-next : j < 256 → slotsWeight (drop j (b .slots)) ≡ slotAt b j .weight + slotsWeight (drop (j + 1) (b .slots))
+  unfolding slotsWeight
+  weight-next l = sum-next (λ y. y .weight) (b .slots) j blankSlot (omega (arith, lengths .of-slots))
+
+  pending-next : j < 256 → (i : ℕ) → i < 64 → pending (drop j (b .slots)) i ≡ oneIf (eqb (placeAt b j) i) + pending (drop (j + 1) (b .slots)) i
+  unfolding pending
+  pending-next l i p =
+      sum-next (λ y. pendingIn i y (y .kind)) (b .slots) j blankSlot (omega (arith, lengths .of-slots))
+      ∙ rw (pends-in (slotAt b j) (slotAt b j .kind) i p, place-same (pendsFor (slotAt b j) (slotAt b j .kind)) i p)
+
+  pub one-more : j < 256 → Claims (atMost (slotAt b j .weight) left ∷ slotRow b j (slotAt b j)) → SlotsSeen b (left - slotAt b j .weight) (set counts (placeAt b j) (getD counts (placeAt b j) 0 + 1)) (j + 1)
+  one-more l fits =
+      let p = placeAt b j in
+      let below : p < length counts = omega (arith, place-below (pendsFor (slotAt b j) (slotAt b j .kind)), h .long) in
+      record {
+        within = omega arith;
+        seen = below-more (λ k. Claims (slotRow b k (slotAt b k))) j (h .seen) (fits .1);
+        leaves = omega (arith, weight-next l, h .leaves, fits .0);
+        counted = λ i q. omega (arith, count-more counts p i below, h .counted i q, pending-next l i q);
+        few = λ i. omega (arith, count-more counts p i below, h .few i, one-at-most (eqb p i));
+        long = length-set counts p (getD counts p 0 + 1) ∙ h .long;
+      }
+
+  -- a sound board refuses no slot
+  pub next-fits : j < 256 → Sound b → Claims (atMost (slotAt b j .weight) left ∷ slotRow b j (slotAt b j))
+  next-fits l s =
+      (omega (arith, weight-next l, h .leaves, s .s5-s6-debt), each-at (slotRow b) (b .slots) j blankSlot (omega (arith, lengths .of-slots)) (s .s3-slots))
+
+  pub all-seen : 256 ≤ j → SlotsFit b left counts
+  unfolding slotsWeight pending
+  all-seen l = record {
+    fit = each-of (slotRow b) (b .slots) blankSlot (λ k p. h .seen k (omega (arith, lengths .of-slots)));
+    leaves = omega (arith, h .leaves, sum-end (λ y. y .weight) (b .slots) j (omega (arith, lengths .of-slots)));
+    counted = λ i p. omega (arith, h .counted i p, sum-end (λ y. pendingIn i y (y .kind)) (b .slots) j (omega (arith, lengths .of-slots)));
+  }
+
+-- ---- by what the pass answers
+pub refused-count : (b : Board) (t : SlotCount) → Counted b t (t .fits) → t .fits ≡ false → false ≡ sound b
+refused-count b t h e = sym (subst (λ (f : Bool). Counted b t f) e h)
+
+pub passed-count : (b : Board) (t : SlotCount) → Counted b t (t .fits) → t .fits ≡ true → SlotsFit b (t .left) (t .pending)
+passed-count b t h e = subst (λ (f : Bool). Counted b t f) e h

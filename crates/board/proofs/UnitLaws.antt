@@ -1,0 +1,109 @@
+-- The pass over the units: what holds once i of them are passed, what a sound board says of the next, and the verdict at the end.
+use mathlib.Core.Path.{_≡_, refl, sym, ap, _∙_}
+use mathlib.Core.Bool.{Bool, true, false}
+use mathlib.Core.List.{List, [], _∷_}
+use Prim.Native.Nat.{ℕ, _+_, _-_, _≤_, _<_}
+use native.Mathlib.Omega.{arith}
+use lib.ListN.{length, getD, drop}
+use lib.Dec.{eqb}
+use borrow.Author.Count.{below-none, below-more}
+use borrow.Author.Tests.{eqb-true, eqb-false, eq-eqb}
+use Rattle.rules.specs.Facts.{Fact, atMost, equal, holds, Claims, tests, Each, oneIf}
+use Rattle.rules.specs.Words.{blankUnit, parentAt, unitAt, ceiling}
+use Rattle.rules.specs.Sound.{sizes, parentRow, unitRow, slotRow, pendingRow, pending, unitsWeight, slotsWeight, Sound, sound}
+use Rattle.rules.specs.declared.Board.{Board}
+use Rattle.rules.proofs.FactLaws.{claims, claims-tested, each-at, each-of}
+use Rattle.rules.proofs.SoundLaws.{sound-tested}
+use Rattle.board.specs.Passes.{SlotsFit}
+use Rattle.board.proofs.TestLaws.{unsound}
+use Rattle.board.proofs.SlotLaws.{sum-next, sum-end}
+
+-- what the test of unit i asks, where `left` is left of the debt and `count` slots are pending for it
+abbrev pub unitFacts : Board → ℕ → ℕ → ℕ → List Fact
+unitFacts b left count i =
+    atMost (unitAt b i .weight) left
+    ∷ holds (tests (parentRow b i (parentAt b i)))
+    ∷ equal count (oneIf (unitAt b i .suspended))
+    ∷ holds (tests (unitRow b i (unitAt b i)))
+    ∷ []
+
+-- what is asked of unit i and its parent, without the weight
+pub record UnitFits (b : Board) (i : ℕ) : Type 0 where
+  pub parent : Claims (parentRow b i (parentAt b i))
+  pub pends : Claims (pendingRow b i (unitAt b i))
+  pub own : Claims (unitRow b i (unitAt b i))
+
+-- ---- once i units are passed, after all slots
+pub record UnitsSeen (b : Board) (counts : List ℕ) (left i : ℕ) : Type 0 where
+  pub ranges : Claims (atMost (b .debt) ceiling ∷ sizes b)
+  pub slots-fit : Each (slotRow b) (b .slots)
+  pub counted : (k : ℕ) → k < 64 → getD counts k 0 ≡ pending (b .slots) k
+  pub within : i ≤ 64
+  pub seen : (k : ℕ) → k < i → UnitFits b k
+  pub leaves : left + unitsWeight (b .units) + slotsWeight (b .slots) ≡ b .debt + unitsWeight (drop i (b .units))
+
+pub no-unit-seen : (b : Board) (left : ℕ) (counts : List ℕ) → Claims (atMost (b .debt) ceiling ∷ sizes b) → SlotsFit b left counts → UnitsSeen b counts left 0
+no-unit-seen b left counts ranges slots = record {
+  ranges = ranges;
+  slots-fit = slots .fit;
+  counted = slots .counted;
+  within = omega arith;
+  seen = below-none (UnitFits b);
+  leaves = omega (arith, slots .leaves);
+}
+
+module _ (b : Board) (counts : List ℕ) (left i : ℕ) (h : UnitsSeen b counts left i) where
+  weight-next : i < 64 → unitsWeight (drop i (b .units)) ≡ unitAt b i .weight + unitsWeight (drop (i + 1) (b .units))
+  unfolding unitsWeight
+  weight-next l = sum-next (λ u. u .weight) (b .units) i blankUnit (omega (arith, h .ranges))
+
+  pub one-more : i < 64 → Claims (unitFacts b left (getD counts i 0) i) → UnitsSeen b counts (left - unitAt b i .weight) (i + 1)
+  one-more l fits =
+      let here : UnitFits b i = record {
+        parent = claims (parentRow b i (parentAt b i)) (fits .1 .0);
+        pends = (sym (h .counted i l) ∙ fits .1 .1 .0, tt);
+        own = claims (unitRow b i (unitAt b i)) (fits .1 .1 .1 .0);
+      } in
+      record {
+        ranges = h .ranges;
+        slots-fit = h .slots-fit;
+        counted = h .counted;
+        within = omega arith;
+        seen = below-more (UnitFits b) i (h .seen) here;
+        leaves = omega (arith, weight-next l, h .leaves, fits .0);
+      }
+
+  -- a sound board refuses no unit
+  pub next-fits : i < 64 → Sound b → Claims (unitFacts b left (getD counts i 0) i)
+  next-fits l s = (
+    omega (arith, weight-next l, h .leaves, s .s5-s6-debt),
+    (
+      claims-tested (parentRow b i (parentAt b i)) (each-at (parentRow b) (b .parents) i 0 (omega (arith, h .ranges)) (s .s1-parents)),
+      (
+        h .counted i l ∙ each-at (pendingRow b) (b .units) i blankUnit (omega (arith, h .ranges)) (s .s4-pending) .0,
+        (claims-tested (unitRow b i (unitAt b i)) (each-at (unitRow b) (b .units) i blankUnit (omega (arith, h .ranges)) (s .s2-units)), tt),
+      ),
+    ),
+  )
+
+  weight-end : 64 ≤ i → unitsWeight (drop i (b .units)) ≡ 0
+  unfolding unitsWeight
+  weight-end l = sum-end (λ u. u .weight) (b .units) i (omega (arith, h .ranges))
+
+  all-fit : 64 ≤ i → left ≡ 0 → Sound b
+  all-fit l e = record {
+    s1-sizes = h .ranges .1;
+    s1-parents = each-of (parentRow b) (b .parents) 0 (λ k p. h .seen k (omega (arith, h .ranges)) .parent);
+    s2-units = each-of (unitRow b) (b .units) blankUnit (λ k p. h .seen k (omega (arith, h .ranges)) .own);
+    s3-slots = h .slots-fit;
+    s4-pending = each-of (pendingRow b) (b .units) blankUnit (λ k p. h .seen k (omega (arith, h .ranges)) .pends);
+    s5-s6-debt = (omega (arith, weight-end l, h .leaves), (h .ranges .0, tt));
+  }
+
+  -- once all are passed, the board is sound exactly where nothing is left of the debt
+  pub all-seen : 64 ≤ i → eqb left 0 ≡ sound b
+  all-seen l = by-test (eqb left 0) refl
+    where
+      by-test : (t : Bool) → eqb left 0 ≡ t → t ≡ sound b
+      by-test true e = sym (sound-tested b (all-fit l (eqb-true left 0 e)))
+      by-test false e = unsound b (λ s. eqb-false left 0 e (omega (arith, weight-end l, h .leaves, s .s5-s6-debt)))

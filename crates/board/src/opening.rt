@@ -1,0 +1,117 @@
+// Opening a board from the number of slots, the delay and the parents of units 1 on.
+use rules::Board;
+use rules::Kind;
+use rules::Outcome;
+use rules::Slot;
+use rules::State;
+use rules::UnitRecord;
+ghost use mathlib.Core.Path.{_≡_};
+ghost use mathlib.Core.List.{_∷_, _++_};
+ghost use Prim.Native.Nat.{_≤_, _-_};
+ghost use lib.ListN.{length, replicate};
+ghost use Rattle.rules.specs.Facts.{judge};
+ghost use Rattle.rules.specs.Opening.{lowerParents, openingChecks, blankBoard, opening};
+
+// Apart from any loop: each repeated record becomes a store for each element.
+fn blank_board() -> Board
+    ensures { λ r. ⌜ r ≡ blankBoard ⌝ }
+{
+    let unit = UnitRecord {
+        weight: 0,
+        countdown: 0,
+        state: State::Idle,
+        suspended: false,
+    };
+    let slot = Slot {
+        weight: 0,
+        from: 0,
+        to: 0,
+        kind: Kind::Empty,
+    };
+    let parents = [0u16; 64];
+    let units = [unit; 64];
+    let slots = [slot; 256];
+    Board {
+        n: 0,
+        m: 0,
+        delay: 0,
+        debt: 0,
+        parents: parents,
+        units: units,
+        slots: slots,
+    }
+}
+
+// Whether each parent is below its unit; the first is unit 1's.
+fn are_lower(parents: &[u16]) -> bool
+    ensures { λ r. ⌜ r ≡ lowerParents (now (parents .entry)) ⌝ }
+{
+    let mut i = 0;
+    while i < parents.len() {
+        if wide(parents[i]) > i {
+            return false;
+        }
+        i += 1;
+    }
+    true
+}
+
+fn wide(x: u16) -> usize
+    ensures { λ r. ⌜ r ≡ x ⌝ }
+{
+    x as usize
+}
+
+// 0, or the number that refuses the opening. Nothing is narrowed before it is tested.
+fn refusal(m: u16, d: u16, parents: &[u16]) -> u16
+    ensures { λ r. ⌜ r ≡ judge (λ k. k) (openingChecks m d (now (parents .entry))) 0 ⌝ }
+{
+    if parents.len() > 63 {
+        return 11;
+    }
+    if m < 1 {
+        return 11;
+    }
+    if m > 256 {
+        return 11;
+    }
+    if d > 255 {
+        return 11;
+    }
+    if !are_lower(parents) {
+        return 12;
+    }
+    0
+}
+
+// The parent entries of a board: unit 0's is 0, and those from the last unit on are 0.
+fn entries(parents: &[u16]) -> [u16; 64]
+    requires { ⌜ length (now parents) ≤ 63 ⌝ }
+    ensures { λ r. ⌜ r ≡ 0 ∷ now (parents .entry) ++ replicate (63 - length (now (parents .entry))) 0 ⌝ }
+{
+    let mut all = [0u16; 64];
+    let mut i = 0;
+    while i < parents.len() {
+        all[i + 1] = parents[i];
+        i += 1;
+    }
+    all
+}
+
+pub fn open(m: u16, d: u16, parents: &[u16]) -> Outcome
+    ensures { λ r. ⌜ r ≡ opening m d (now (parents .entry)) ⌝ }
+{
+    let refused = refusal(m, d, parents);
+    let mut b = blank_board();
+    if refused == 0 {
+        let all = entries(parents);
+        b.n = parents.len() as u16 + 1;
+        b.m = m;
+        b.delay = d;
+        b.parents = all;
+    }
+    Outcome {
+        answer: refused,
+        board: b,
+    }
+}

@@ -1,0 +1,71 @@
+-- `send` meets its contract: each return rewrites with the tests that led to it.
+use mathlib.Core.Path.{_≡_, sym, _∙_}
+use mathlib.Core.Bool.{true}
+use borrow.Author.Tests.{lt-leb}
+use Prim.Native.Nat.{ℕ}
+use Rattle.rules.specs.Words.{isActive, isEmpty}
+use Rattle.rules.specs.Steps.{shared, message, sendChecks, sendEffect}
+use Rattle.rules.specs.declared.Kind.the-variants.{Work}
+use Rattle.rules.specs.declared.Effect.the-variants.{Refused, OnBoth}
+use Rattle.rules.specs.declared.UnitRecord.{UnitRecord}
+use Rattle.rules.specs.declared.Slot.{Slot}
+use Rattle.rules.specs.declared.Shared.{Shared}
+use Rattle.rules.proofs.FactLaws.{judge-passed}
+use Rattle.steps.proofs.Flags.{said-yes, said-no}
+use borrow.Author.Needs.{needs}
+use Rattle.steps.proofs.sending.send.Statement.{statement}
+use Rattle.steps.proofs.sending.send.Tie as tie
+
+is-active-requires : tie.Need-is-active-requires
+is-active-requires c κs = search needs
+
+is-empty-requires : tie.Need-is-empty-requires
+is-empty-requires c κs = search needs
+
+returns : tie.Need-returns
+returns c = simp (said-no (c .before .before .is-active .ensures) (c .if1 .taken))
+
+active : (c : tie.Else1) → isActive (c .before .before .before .args .x .state) ≡ true
+active c = said-yes (c .before .before .is-active .ensures) (c .if1 .left)
+
+returns-2 : tie.Need-returns-2
+returns-2 c = simp (active (c .before), c .if2 .taken)
+
+returns-3 : tie.Need-returns-3
+returns-3 c = simp (active (c .before .before), c .before .if2 .left, said-no (c .before .before .before .is-empty .ensures) (c .if3 .taken))
+
+empty : (c : tie.Else3) → isEmpty (c .before .before .before .before .before .args .y .kind) ≡ true
+empty c = said-yes (c .before .before .before .is-empty .ensures) (c .if3 .left)
+
+returns-4 : tie.Need-returns-4
+returns-4 c = simp (active (c .before .before .before), c .before .before .if2 .left, empty (c .before), lt-leb _ _ (c .if4 .taken))
+
+share-requires : tie.Need-share-requires
+share-requires c κs = search needs
+
+message-requires : tie.Need-message-requires
+message-requires c κs = search needs
+
+sent : (x : UnitRecord) {debt u v : ℕ} (s : Shared) (y : Slot) → s ≡ shared x → y ≡ message Work u v (s .given) → OnBoth (s .unit) y debt ≡ sendEffect debt u v x
+sent x s y p q = cc
+
+returns-5 : tie.Need-returns-5
+returns-5 c =
+    let d = c .before .before .before in
+    let a = d .before .before .before .before .before .before .args in
+    sent (a .x) (c .before .before .share .result) (c .message .result) (c .before .before .share .ensures) (c .message .ensures)
+    ∙ sym (judge-passed Refused (sendChecks (a .x) (a .y)) (sendEffect (a .debt) (a .u) (a .v) (a .x)) (active (d .before .before .before), (d .before .before .if2 .left, (empty (d .before), (d .if4 .left, tt)))))
+
+pub send-spec : {M : Type 1} → statement M
+send-spec =
+    tie.close
+    (tie.spec
+    is-active-requires
+    is-empty-requires
+    returns
+    returns-2
+    returns-3
+    returns-4
+    share-requires
+    message-requires
+    returns-5)

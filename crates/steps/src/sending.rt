@@ -1,0 +1,54 @@
+// Weight goes out: the start, and work sent with a share of a unit's weight.
+ghost use mathlib.Core.Path.{_≡_};
+ghost use Rattle.rules.specs.Facts.{judge};
+ghost use Rattle.rules.specs.Steps.{startChecks, startEffect, sendChecks, sendEffect};
+ghost use Rattle.rules.specs.declared.Effect.the-variants.{Refused};
+use crate::made::GRANT;
+use crate::made::message;
+use rules::Effect;
+use rules::Kind;
+use rules::Slot;
+use rules::State;
+use rules::UnitRecord;
+
+pub(crate) fn start(debt: u64) -> Effect
+    ensures { λ e. ⌜ e ≡ judge Refused (startChecks debt) startEffect ⌝ }
+{
+    if debt != 0 {
+        return Effect::Refused(37);
+    }
+    Effect::OnUnit(
+        UnitRecord {
+            weight: GRANT,
+            countdown: 0,
+            state: State::Active,
+            suspended: false,
+        },
+        GRANT,
+    )
+}
+
+pub(crate) fn send(debt: u64, u: u16, v: u16, x: UnitRecord, y: Slot) -> Effect
+    ensures { λ e. ⌜ e ≡ judge Refused (sendChecks x y) (sendEffect debt u v x) ⌝ }
+{
+    let state = x.state;
+    let active = state.is_active();
+    let kind = y.kind;
+    let empty = kind.is_empty();
+    let weight = x.weight;
+    if !active {
+        return Effect::Refused(31);
+    }
+    if x.suspended {
+        return Effect::Refused(32);
+    }
+    if !empty {
+        return Effect::Refused(34);
+    }
+    if weight < 2 {
+        return Effect::Refused(33);
+    }
+    let s = x.share();
+    let kept = s.unit;
+    Effect::OnBoth(kept, message(Kind::Work, u, v, s.given), debt)
+}
