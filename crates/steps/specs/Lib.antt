@@ -1,1 +1,3 @@
 pub mod Changing
+pub mod Turns
+pub mod RunMeets

@@ -2,6 +2,7 @@
 mod batch;
 mod changes;
 mod delivering;
+mod lent;
 mod made;
 mod places;
 mod records;
@@ -14,6 +15,10 @@ use board::is_sound;
 use changes::change_at;
 use changes::slot_place;
 use changes::unit_place;
+pub use lent::RanOn;
+pub use lent::run;
+pub use lent::run_list;
+pub use lent::step_lent;
 use rules::Action;
 use rules::Board;
 use rules::Outcome;
