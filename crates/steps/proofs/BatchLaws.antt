@@ -9,16 +9,16 @@ use native.Mathlib.Omega.{arith}
 use lib.Dec.{eqb}
 use lib.ListN.{length, getD, set, take, drop, replicate, length-take, length-replicate, drop-of-length-le}
 use lib.Seq.{sets, sets-eq, take-all, drop-cons, getD-take}
+use Rattle.rules.specs.Facts.{oneIf}
 use Rattle.rules.specs.Sound.{sound}
 use Rattle.rules.specs.Steps.{step}
-use Rattle.rules.specs.Lists.{after, answers}
+use Rattle.rules.specs.Lists.{after, answers, accepted}
 use Rattle.rules.specs.Runs.{zeros, debts, padded, batch, batchSteps}
 use Rattle.rules.specs.Guarantee.{Carries}
 use Rattle.rules.specs.declared.Board.{Board}
 use Rattle.rules.specs.declared.StepRecord.{StepRecord}
 use Rattle.rules.specs.declared.Outcome.{Outcome}
 use Rattle.rules.specs.declared.Batch.{Batch}
-use Rattle.rules.specs.declared.Ran.{Ran}
 use Rattle.rules.specs.declared.Ran.the-variants.{Zeros, Refused}
 use Rattle.rules.proofs.SoundLaws.{below-or-not}
 use Rattle.rules.proofs.Theorem.{carries}
@@ -31,42 +31,32 @@ blankStep = record { kind = 0; unit = 0; other = 0; slot = 0 }
 unfoldable pub filled : Board → List StepRecord → ℕ → ℕ → List ℕ → List ℕ → Batch
 filled b rs z i ks ds = record { ran = Zeros (z + zeros (answers b rs)); board = after b rs; answers = sets ks i (answers b rs); debts = sets ds i (debts b rs) }
 
--- 1 for an accepted step
-abbrev counted : ℕ → ℕ
-counted k = cond (eqb k 0) 1 0
-
 -- ---- a turn
-pub counted-small : (k : ℕ) → counted k ≤ 1
-counted-small k = by-test (eqb k 0)
-  where
-    by-test : (t : Bool) → cond t 1 0 ≤ 1
-    by-test true = omega arith
-    by-test false = omega arith
+pub one-at-most : (t : Bool) → oneIf t ≤ 1
+one-at-most true = omega arith
+one-at-most false = omega arith
 
-counted-more : (z k m : ℕ) → (z + counted k) + m ≡ z + cond (eqb k 0) (suc m) m
-counted-more z k m = by-test (eqb k 0)
-  where
-    by-test : (t : Bool) → (z + cond t 1 0) + m ≡ z + cond t (suc m) m
-    by-test true = omega arith
-    by-test false = omega arith
+one-more : (z m : ℕ) (t : Bool) → (z + oneIf t) + m ≡ z + cond t (suc m) m
+one-more z m true = omega arith
+one-more z m false = omega arith
 
 filled-step : (b : Board) (r : StepRecord) (rs : List StepRecord) (z i : ℕ) (ks ds : List ℕ)
-    → filled (step b r .board) rs (z + counted (step b r .answer)) (suc i) (set ks i (step b r .answer)) (set ds i (step b r .board .debt)) ≡ filled b (r ∷ rs) z i ks ds
+    → filled (step b r .board) rs (z + oneIf (accepted b r)) (suc i) (set ks i (step b r .answer)) (set ds i (step b r .board .debt)) ≡ filled b (r ∷ rs) z i ks ds
 unfolding filled after answers debts zeros
 filled-step b r rs z i ks ds =
     let c : Board = step b r .board in
     ap (λ (m : ℕ). record { ran = Zeros m; board = after c rs; answers = sets (set ks i (step b r .answer)) (suc i) (answers c rs); debts = sets (set ds i (c .debt)) (suc i) (debts c rs) })
-    (counted-more z (step b r .answer) (zeros (answers c rs)))
+    (one-more z (zeros (answers c rs)) (accepted b r))
 
 -- the step at place i of the n that are run, with its outcome o stored and counted, leaves what the steps from i on gave
-pub filled-turn : (steps : List StepRecord) (n : ℕ) (b : Board) (z i k : ℕ) (ks ds : List ℕ) (o : Outcome) → n ≤ length steps → i < n → o ≡ step b (getD steps i blankStep) → k ≡ counted (o .answer)
+pub filled-turn : (steps : List StepRecord) (n : ℕ) (b : Board) (z i k : ℕ) (ks ds : List ℕ) (o : Outcome) → n ≤ length steps → i < n → o ≡ step b (getD steps i blankStep) → k ≡ oneIf (eqb (o .answer) 0)
     → filled (o .board) (drop (i + 1) (take n steps)) (z + k) (i + 1) (set ks i (o .answer)) (set ds i (o .board .debt)) ≡ filled b (drop i (take n steps)) z i ks ds
 filled-turn steps n b z i k ks ds o m l e f =
     let rs = take n steps in
     let g : o ≡ step b (getD rs i blankStep) = e ∙ ap (step b) (sym (getD-take n steps i blankStep l)) in
     ap (λ (j : ℕ). filled (o .board) (drop (i + 1) rs) (z + j) (i + 1) (set ks i (o .answer)) (set ds i (o .board .debt))) f
-    ∙ ap (λ (j : ℕ). filled (o .board) (drop j rs) (z + counted (o .answer)) j (set ks i (o .answer)) (set ds i (o .board .debt))) (add-one i)
-    ∙ ap (λ (p : Outcome). filled (p .board) (drop (suc i) rs) (z + counted (p .answer)) (suc i) (set ks i (p .answer)) (set ds i (p .board .debt))) g
+    ∙ ap (λ (j : ℕ). filled (o .board) (drop j rs) (z + oneIf (eqb (o .answer) 0)) j (set ks i (o .answer)) (set ds i (o .board .debt))) (add-one i)
+    ∙ ap (λ (p : Outcome). filled (p .board) (drop (suc i) rs) (z + oneIf (eqb (p .answer) 0)) (suc i) (set ks i (p .answer)) (set ds i (p .board .debt))) g
     ∙ filled-step b (getD rs i blankStep) (drop (suc i) rs) z i ks ds
     ∙ ap (λ (qs : List StepRecord). filled b qs z i ks ds) (sym (drop-cons rs i blankStep (omega (arith, length-take n steps))))
 
@@ -96,7 +86,7 @@ drop-replicate (suc k) zero = ap (λ (n : ℕ). replicate n 0) (sym (zero-sub (s
 drop-replicate (suc k) (suc n) = drop-replicate k n ∙ simp unary-clauses
 
 -- 64 zeros, written into from the front
-abbrev pub noughts : List ℕ
+abbrev noughts : List ℕ
 noughts = replicate 64 0
 
 noughts-padded : (ks : List ℕ) → length ks ≤ 64 → sets noughts 0 ks ≡ padded ks

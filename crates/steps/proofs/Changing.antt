@@ -1,5 +1,5 @@
 -- A change stored at its places is the step: what the step on a sound board and each turn of a batch rest on.
-use mathlib.Core.Path.{_≡_, refl, sym, ap, _∙_}
+use mathlib.Core.Path.{_≡_, refl, ap, _∙_}
 use Prim.Native.Nat.{ℕ, _+_, _≤_}
 use native.Mathlib.Omega.{arith}
 use lib.ListN.{set}
@@ -9,14 +9,12 @@ use Rattle.rules.specs.Sound.{Sound}
 use Rattle.rules.specs.Steps.{actionOf, effect, changed, applied, soundStep}
 use Rattle.rules.specs.declared.Effect.{Effect}
 use Rattle.rules.specs.declared.Effect.the-variants.{Refused, OnUnit, OnSlot, OnBoth}
-use Rattle.rules.specs.declared.UnitRecord.{UnitRecord}
-use Rattle.rules.specs.declared.Slot.{Slot}
 use Rattle.rules.specs.declared.Board.{Board}
 use Rattle.rules.specs.declared.StepRecord.{StepRecord}
 use Rattle.rules.specs.declared.Outcome.{Outcome}
 use Rattle.rules.proofs.SoundLaws.{weights-fit}
 use Rattle.steps.specs.declared.changes.Change.{Change}
-use Rattle.steps.specs.Changing.{slotPlace, unitPlace, left, ruleOn, changeAt}
+use Rattle.steps.specs.Changing.{slotPlace, unitPlace, changeOf, effectOn, changeAt}
 use Rattle.steps.proofs.Clamping.{clamped-step}
 
 -- the answer, and the board with the change stored at the unit u and the slot s
@@ -24,12 +22,12 @@ abbrev pub stored : Board → ℕ → ℕ → Change → Outcome
 stored b u s c = record { answer = c .answer; board = changed b (set (b .units) u (c .unit)) (set (b .slots) s (c .slot)) (c .debt) }
 
 -- what an effect leaves as it was is stored where it was read
-left-applied : (b : Board) (u s : ℕ) (e : Effect) → stored b u s (left e (unitAt b u) (slotAt b s) (b .debt)) ≡ applied b u s e
+change-applied : (b : Board) (u s : ℕ) (e : Effect) → stored b u s (changeOf e (unitAt b u) (slotAt b s) (b .debt)) ≡ applied b u s e
 unfolding applied
-left-applied b u s (Refused k) = rw (set-getD (b .units) u blankUnit, set-getD (b .slots) s blankSlot)
-left-applied b u s (OnUnit x debt) = rw (set-getD (b .slots) s blankSlot)
-left-applied b u s (OnSlot y debt) = rw (set-getD (b .units) u blankUnit)
-left-applied b u s (OnBoth x y debt) = refl
+change-applied b u s (Refused k) = rw (set-getD (b .units) u blankUnit, set-getD (b .slots) s blankSlot)
+change-applied b u s (OnUnit x debt) = rw (set-getD (b .slots) s blankSlot)
+change-applied b u s (OnSlot y debt) = rw (set-getD (b .units) u blankUnit)
+change-applied b u s (OnBoth x y debt) = refl
 
 module _ (b : Board) (r : StepRecord) (h : Sound b) (u s : ℕ) (slot-is : s ≡ slotPlace r) (unit-is : u ≡ unitPlace r (slotAt b s .to)) where
   -- the weights there are part of the debt
@@ -40,5 +38,5 @@ module _ (b : Board) (r : StepRecord) (h : Sound b) (u s : ℕ) (slot-is : s ≡
   unfolding soundStep effect
   stored-step c e =
       ap (stored b u s) e
-      ∙ left-applied b u s (ruleOn (b .n) (b .m) (b .debt) (b .delay) r (unitAt b u) (parentAt b u) (slotAt b s))
+      ∙ change-applied b u s (effectOn (b .n) (b .m) (b .debt) (b .delay) r (unitAt b u) (parentAt b u) (slotAt b s))
       ∙ clamped-step b h r (actionOf (r .kind)) u s slot-is unit-is

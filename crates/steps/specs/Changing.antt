@@ -1,4 +1,4 @@
--- What a step leaves at its places, from the records there alone.
+-- What a step changes, from the records at its places alone.
 use Prim.Native.Nat.{ℕ, min}
 use Rattle.rules.specs.Facts.{judge}
 use Rattle.rules.specs.Steps.{actionOf, slotOf, unitBy, placeChecks, recordRule}
@@ -17,15 +17,15 @@ abbrev pub unitPlace : StepRecord → ℕ → ℕ
 unitPlace r to = min (unitBy r to (actionOf (r .kind))) 63
 
 -- what an effect leaves of the unit x, the slot y and the debt
-abbrev pub left : Effect → UnitRecord → Slot → ℕ → Change
-left (Refused k) x y debt = record { answer = k; debt = debt; unit = x; slot = y }
-left (OnUnit unit debt) x y _ = record { answer = 0; debt = debt; unit = unit; slot = y }
-left (OnSlot slot debt) x y _ = record { answer = 0; debt = debt; unit = x; slot = slot }
-left (OnBoth unit slot debt) x y _ = record { answer = 0; debt = debt; unit = unit; slot = slot }
+abbrev pub changeOf : Effect → UnitRecord → Slot → ℕ → Change
+changeOf (Refused k) x y debt = record { answer = k; debt = debt; unit = x; slot = y }
+changeOf (OnUnit unit debt) x y _ = record { answer = 0; debt = debt; unit = unit; slot = y }
+changeOf (OnSlot slot debt) x y _ = record { answer = 0; debt = debt; unit = x; slot = slot }
+changeOf (OnBoth unit slot debt) x y _ = record { answer = 0; debt = debt; unit = unit; slot = slot }
 
 -- the whole bracket of a step, then what its effect leaves; p is the unit's parent
-abbrev pub ruleOn : ℕ → ℕ → ℕ → ℕ → StepRecord → UnitRecord → ℕ → Slot → Effect
-ruleOn n m debt delay r x p y = judge Refused (placeChecks n m r (actionOf (r .kind))) (recordRule debt delay r x p y (actionOf (r .kind)))
+abbrev pub effectOn : ℕ → ℕ → ℕ → ℕ → StepRecord → UnitRecord → ℕ → Slot → Effect
+effectOn n m debt delay r x p y = judge Refused (placeChecks n m r (actionOf (r .kind))) (recordRule debt delay r x p y (actionOf (r .kind)))
 
 abbrev pub changeAt : ℕ → ℕ → ℕ → ℕ → StepRecord → UnitRecord → ℕ → Slot → Change
-changeAt n m debt delay r x p y = left (ruleOn n m debt delay r x p y) x y debt
+changeAt n m debt delay r x p y = changeOf (effectOn n m debt delay r x p y) x y debt

@@ -12,6 +12,7 @@ ghost use mathlib.Core.Bool.{cond};
 ghost use Prim.Native.Nat.{min};
 ghost use lib.Dec.{eqb};
 ghost use lib.ListN.{take};
+ghost use Rattle.rules.specs.Facts.{oneIf};
 ghost use Rattle.rules.specs.Guarantee.{Carries};
 ghost use Rattle.rules.specs.Runs.{batch, batchSteps};
 ghost use Rattle.rules.specs.declared.Ran.the-variants.{Zeros, Refused};
@@ -31,7 +32,7 @@ fn turns(sound: bool, count: usize) -> usize
 
 // 1 for an accepted step.
 fn accepted(answer: u16) -> usize
-    ensures { λ k. ⌜ k ≡ cond (eqb answer 0) 1 0 ⌝ }
+    ensures { λ k. ⌜ k ≡ oneIf (eqb answer 0) ⌝ }
 {
     if answer == 0 {
         return 1;
@@ -48,7 +49,7 @@ fn ran_on(sound: bool, zeros: usize) -> Ran
     Ran::Refused(30)
 }
 
-// The first `count` steps, or all 64 where `count` is larger. The board is stored into where it lies: no step copies it.
+// The first `count` steps, or all 64 where `count` is larger. The board is stored into where it lies, so no step copies it.
 pub fn run_batch(mut b: Board, steps: [StepRecord; 64], count: usize) -> Batch
     ensures { λ r. ⌜ r ≡ batch b (take count steps) ⌝ }
     ensures carries { λ r. ⌜ Carries b (batchSteps b (take count steps)) (r .board) ⌝ }
@@ -66,14 +67,14 @@ pub fn run_batch(mut b: Board, steps: [StepRecord; 64], count: usize) -> Batch
         let x = b.units[u];
         let p = b.parents[u];
         let c = change_at(b.n, b.m, b.debt, b.delay, r, x, p, y);
+        answers[i] = c.answer;
+        debts[i] = c.debt;
+        zeros += accepted(c.answer);
         let unit = c.unit;
         let slot = c.slot;
         b.units[u] = unit;
         b.slots[s] = slot;
         b.debt = c.debt;
-        answers[i] = c.answer;
-        debts[i] = c.debt;
-        zeros += accepted(c.answer);
     }
     Batch {
         ran: ran_on(sound, zeros),

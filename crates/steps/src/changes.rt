@@ -1,4 +1,4 @@
-// What a step leaves at its places, from the records there: whoever has the board, the step or the batch, reads the records and stores the change.
+// What a step changes, from the records at its places alone. The step and the batch, which have the board, read the records and store the change.
 use crate::action;
 use crate::places::clamped;
 use crate::places::place_refusal;
@@ -15,7 +15,7 @@ ghost use Prim.Native.Nat.{_+_, _≤_};
 ghost use lib.Dec.{eqb};
 ghost use Rattle.rules.specs.Words.{ceiling};
 ghost use Rattle.rules.specs.declared.Effect.the-variants.{Refused};
-ghost use Rattle.steps.specs.Changing.{slotPlace, unitPlace, left, changeAt};
+ghost use Rattle.steps.specs.Changing.{slotPlace, unitPlace, changeOf, changeAt};
 
 // The answer, and the debt, the unit and the slot after the step: as they were where it is refused.
 pub(crate) struct Change {
@@ -49,8 +49,8 @@ fn unless_refused(k: u16, e: Effect) -> Effect
 }
 
 // What an effect leaves of the unit x, the slot y and the debt.
-fn left(e: Effect, x: UnitRecord, y: Slot, debt: u64) -> Change
-    ensures { λ c. ⌜ c ≡ left e x y debt ⌝ }
+fn change_of(e: Effect, x: UnitRecord, y: Slot, debt: u64) -> Change
+    ensures { λ c. ⌜ c ≡ changeOf e x y debt ⌝ }
 {
     match e {
         Effect::Refused(k) => Change {
@@ -97,5 +97,5 @@ pub(crate) fn change_at(
     let a = action(r.kind);
     let k = place_refusal(n, m, r, a);
     let e = unless_refused(k, record_rule(debt, delay, r, x, p, y, a));
-    left(e, x, y, debt)
+    change_of(e, x, y, debt)
 }

@@ -10,7 +10,6 @@ mod requesting;
 mod resting;
 mod sending;
 
-pub use batch::run_batch;
 use board::is_sound;
 use changes::change_at;
 use changes::slot_place;
@@ -27,6 +26,7 @@ ghost use mathlib.Core.Path.{_≡_};
 ghost use mathlib.Core.Bool.{true};
 ghost use Rattle.rules.specs.Sound.{sound};
 ghost use Rattle.rules.specs.Steps.{actionOf, soundStep, step};
+pub use batch::run_batch;
 
 // A step's kind by its number; every number outside 1 to 7 is unknown.
 pub(crate) fn action(kind: u16) -> Action

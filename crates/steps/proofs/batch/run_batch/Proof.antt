@@ -1,7 +1,9 @@
+-- `run_batch` meets its contract: what is left from each turn on gives what the whole gives, and a change stored is the step.
 use mathlib.Core.Path.{_≡_, refl, sym, ap, subst, _∙_}
 use mathlib.Core.List.{List}
 use Prim.Native.Nat.{ℕ, _≤_, _<_, _-_}
 use native.Mathlib.Omega.{arith}
+use lib.Dec.{eqb}
 use lib.ListN.{length, getD, drop, take}
 use borrow.Author.Needs.{needs}
 use Rattle.rules.specs.Sound.{Sound}
@@ -16,18 +18,9 @@ use Rattle.rules.proofs.SoundLaws.{sound-claims}
 use Rattle.rules.proofs.Accepted.{step-sound}
 use Rattle.rules.proofs.ListLaws.{step-keeps-sound}
 use Rattle.steps.proofs.Changing.{stored, place-weights, stored-step}
-use Rattle.steps.proofs.BatchLaws.{filled, blankStep, counted-small, filled-turn, filled-end, unlessUnsound, turns-few, turns-sound, filled-batch, batch-carries}
+use Rattle.steps.proofs.BatchLaws.{filled, blankStep, one-at-most, filled-turn, filled-end, unlessUnsound, turns-few, turns-sound, filled-batch, batch-carries}
 use Rattle.steps.proofs.batch.run_batch.Statement.{statement}
 use Rattle.steps.proofs.batch.run_batch.Tie as tie
-use Rattle.steps.proofs.batch.run_batch.Reads as reads
-use Rattle.steps.proofs.batch.run_batch.Lts as lts
-use Rattle.board.proofs.is_sound.Reads as is-sound-reads
-use Rattle.steps.proofs.batch.accepted.Reads as accepted-reads
-use Rattle.steps.proofs.batch.ran_on.Reads as ran-on-reads
-use Rattle.steps.proofs.batch.turns.Reads as turns-reads
-use Rattle.steps.proofs.changes.change_at.Reads as change-at-reads
-use Rattle.steps.proofs.changes.slot_place.Reads as slot-place-reads
-use Rattle.steps.proofs.changes.unit_place.Reads as unit-place-reads
 
 -- at the head of each turn: what is left from here gives what the whole gives, and the board is sound while a step is left
 record Turn (whole : Batch) (rs : List StepRecord) (n : ℕ) (b : Board) (answers debts : List ℕ) (zeros i : ℕ) : Type 0 where
@@ -128,18 +121,6 @@ stepped g =
     stored-step (at-loop d .loop .b) (asked d) (sure d) (d .unit-place .result) (slot-place d .slot-place .result) (slot-place d .slot-place .ensures) (d .unit-place .ensures) (g .change-at .result) (g .change-at .ensures)
     ∙ sym (step-sound (at-loop d .loop .b) (asked d) (sure d))
 
-mul-unit : tie.Need-mul-unit Inv-loop μ-loop
-mul-unit c = search needs
-
-element-set-from-unit : tie.Need-element-set-from-unit Inv-loop μ-loop
-element-set-from-unit c = search needs
-
-mul-slot : tie.Need-mul-slot Inv-loop μ-loop
-mul-slot c = search needs
-
-element-set-from-slot : tie.Need-element-set-from-slot Inv-loop μ-loop
-element-set-from-slot c = search needs
-
 mul-answers : tie.Need-mul-answers Inv-loop μ-loop
 mul-answers c = search needs
 
@@ -156,7 +137,19 @@ accepted-requires : tie.Need-accepted-requires Inv-loop μ-loop
 accepted-requires c κs = search needs
 
 add-zeros : tie.Need-add-zeros Inv-loop μ-loop
-add-zeros c = omega (arith, c .accepted .ensures, counted-small (c .before .before .before .change-at .result .answer))
+add-zeros c = omega (arith, c .accepted .ensures, one-at-most (eqb (c .before .change-at .result .answer) 0))
+
+mul-unit : tie.Need-mul-unit Inv-loop μ-loop
+mul-unit c = search needs
+
+element-set-from-unit : tie.Need-element-set-from-unit Inv-loop μ-loop
+element-set-from-unit c = search needs
+
+mul-slot : tie.Need-mul-slot Inv-loop μ-loop
+mul-slot c = search needs
+
+element-set-from-slot : tie.Need-element-set-from-slot Inv-loop μ-loop
+element-set-from-slot c = search needs
 
 add-i : tie.Need-add-i Inv-loop μ-loop
 add-i c = search needs
@@ -166,16 +159,17 @@ loop-less c = search needs
 
 loop-again : tie.Need-loop-again Inv-loop μ-loop
 loop-again c =
-    let g = c .before .before .before in
+    let k = c .before .before in
+    let g = k .before in
     let d = unit-place g in
     let h = at-loop d in
     record {
       few = h .loop .inv .few;
       within = search needs;
-      counts = omega (arith, c .accepted .ensures, counted-small (g .change-at .result .answer), h .loop .inv .counts);
+      counts = omega (arith, k .accepted .ensures, one-at-most (eqb (g .change-at .result .answer) 0), h .loop .inv .counts);
       is-sound = λ p. subst (λ (o : Outcome). Sound (o .board)) (sym (stepped g)) (step-keeps-sound (h .loop .b) (asked d) (sure d));
       gives =
-          filled-turn (start h .args .t2) (h .before .turns .result) (h .loop .b) (h .loop .zeros) (h .loop .i) (c .accepted .result) (h .loop .answers) (h .loop .debts) (outcome g) (omega (arith, all-64 (start h))) (slot-place d .before .before .loop-test .taken) (stepped g) (c .accepted .ensures)
+          filled-turn (start h .args .t2) (h .before .turns .result) (h .loop .b) (h .loop .zeros) (h .loop .i) (k .accepted .result) (h .loop .answers) (h .loop .debts) (outcome g) (omega (arith, all-64 (start h))) (slot-place d .before .before .loop-test .taken) (stepped g) (k .accepted .ensures)
           ∙ h .loop .inv .gives;
     }
 
@@ -190,9 +184,9 @@ returns c =
     let t = h .before .before .is-sound in
     let n = h .before .turns in
     let made : _ ≡ batch b (take (start h .args .count) steps) =
-        ap (λ (q : Ran). record { ran = q; board = h .loop .b; answers = h .loop .answers; debts = h .loop .debts }) (c .ran-on .ensures)
-        ∙ ap (unlessUnsound (t .result)) (sym (filled-end steps (n .result) (h .loop .b) (h .loop .zeros) (h .loop .i) (h .loop .answers) (h .loop .debts) (omega (arith, c .before .loop-test .left))) ∙ h .loop .inv .gives)
-        ∙ filled-batch b steps (start h .args .count) (t .result) (n .result) (all-64 (start h)) (t .ensures) (n .ensures) in
+    ap (λ (q : Ran). record { ran = q; board = h .loop .b; answers = h .loop .answers; debts = h .loop .debts }) (c .ran-on .ensures)
+    ∙ ap (unlessUnsound (t .result)) (sym (filled-end steps (n .result) (h .loop .b) (h .loop .zeros) (h .loop .i) (h .loop .answers) (h .loop .debts) (omega (arith, c .before .loop-test .left))) ∙ h .loop .inv .gives)
+    ∙ filled-batch b steps (start h .args .count) (t .result) (n .result) (all-64 (start h)) (t .ensures) (n .ensures) in
     (made, batch-carries b (take (start h .args .count) steps) _ made)
 
 pub run-batch-spec : {M : Type 1} → statement M
@@ -215,16 +209,16 @@ run-batch-spec =
     mul-p
     element-copy-out-p
     change-at-requires
-    mul-unit
-    element-set-from-unit
-    mul-slot
-    element-set-from-slot
     mul-answers
     array-write-answers
     mul-debts
     array-write-debts
     accepted-requires
     add-zeros
+    mul-unit
+    element-set-from-unit
+    mul-slot
+    element-set-from-slot
     add-i
     loop-less
     loop-again

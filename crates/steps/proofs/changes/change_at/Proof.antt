@@ -1,12 +1,12 @@
 -- `change_at` meets its contract: the number that refuses the place is the bracket's head, and the rest is what its callees say.
-use mathlib.Core.Path.{_≡_, ap, _∙_}
+use mathlib.Core.Path.{ap, _∙_}
 use borrow.Author.Needs.{needs}
 use Rattle.rules.specs.Facts.{judge}
 use Rattle.rules.specs.Steps.{placeChecks, recordRule}
 use Rattle.rules.specs.declared.Action.{Action}
 use Rattle.rules.specs.declared.Effect.{Effect}
 use Rattle.rules.specs.declared.Effect.the-variants.{Refused}
-use Rattle.steps.specs.Changing.{left}
+use Rattle.steps.specs.Changing.{changeOf}
 use Rattle.steps.proofs.Clamping.{placed-effect}
 use Rattle.steps.proofs.changes.change_at.Statement.{statement}
 use Rattle.steps.proofs.changes.change_at.Tie as tie
@@ -23,8 +23,8 @@ record-rule-requires c κs = search needs
 unless-refused-requires : tie.Need-unless-refused-requires
 unless-refused-requires c κs = search needs
 
-left-requires : tie.Need-left-requires
-left-requires c κs = search needs
+change-of-requires : tie.Need-change-of-requires
+change-of-requires c κs = search needs
 
 returns : tie.Need-returns
 returns c =
@@ -32,8 +32,8 @@ returns c =
     let k = c .before .before .before .place-refusal in
     let a = c .before .before .before .before .action in
     let g = c .before .before .before .before .before .args in
-    c .left .ensures
-    ∙ ap (λ (f : Effect). left f (g .x) (g .y) (g .debt))
+    c .change-of .ensures
+    ∙ ap (λ (f : Effect). changeOf f (g .x) (g .y) (g .debt))
     (placed-effect (g .n) (g .m) (g .r) (a .result) (k .result) (c .before .before .record-rule .result) (e .result) (k .ensures) (e .ensures)
     ∙ ap (judge Refused (placeChecks (g .n) (g .m) (g .r) (a .result))) (c .before .before .record-rule .ensures)
     ∙ ap (λ (b : Action). judge Refused (placeChecks (g .n) (g .m) (g .r) b) (recordRule (g .debt) (g .delay) (g .r) (g .x) (g .p) (g .y) b)) (a .ensures))
@@ -46,5 +46,5 @@ change-at-spec =
     place-refusal-requires
     record-rule-requires
     unless-refused-requires
-    left-requires
+    change-of-requires
     returns)

@@ -1,6 +1,4 @@
 -- `slot_place` meets its contract: it is what its callees say.
-use mathlib.Core.Path.{_≡_, ap, _∙_}
-use Prim.Native.Nat.{ℕ, min}
 use borrow.Author.Needs.{needs}
 use Rattle.steps.proofs.changes.slot_place.Statement.{statement}
 use Rattle.steps.proofs.changes.slot_place.Tie as tie

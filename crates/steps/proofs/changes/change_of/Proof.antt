@@ -1,7 +1,7 @@
--- `left` meets its contract, by the effect.
+-- `change_of` meets its contract, by the effect.
 use borrow.Author.Needs.{needs}
-use Rattle.steps.proofs.changes.left.Statement.{statement}
-use Rattle.steps.proofs.changes.left.Tie as tie
+use Rattle.steps.proofs.changes.change_of.Statement.{statement}
+use Rattle.steps.proofs.changes.change_of.Tie as tie
 
 enum-known-e : tie.Need-enum-known-e
 enum-known-e c = search needs
@@ -27,8 +27,8 @@ returns-3 c = simp (c .before .e3 .given .1)
 returns-4 : tie.Need-returns-4
 returns-4 c = simp (c .before .e4 .given .1)
 
-pub left-spec : {M : Type 1} → statement M
-left-spec =
+pub change-of-spec : {M : Type 1} → statement M
+change-of-spec =
     tie.close
     (tie.spec
     enum-known-e
