@@ -1,4 +1,4 @@
--- A run as its loop has it, by the number of turns taken: after as many turns as there are steps it is what the definitions over the list say.
+-- A run by its turns is the run over its list: after as many turns as there are steps, board, zeros and buffer are what the definitions over the list say.
 use mathlib.Core.Path.{_≡_, refl, sym, ap, subst, _∙_}
 use mathlib.Core.Bool.{Bool, true, false, cond}
 use mathlib.Core.List.{List, [], _∷_, _++_}
@@ -20,29 +20,9 @@ use Rattle.rules.specs.declared.Ran.the-variants.{Zeros, Refused}
 use Rattle.rules.proofs.SoundLaws.{sound-claims, sound-tested}
 use Rattle.rules.proofs.ListLaws.{step-keeps-sound}
 use Rattle.rules.proofs.Theorem.{carries}
-use Rattle.steps.specs.Turns.{refusalOf, turnsOf, turnOf, ranOf}
+use Rattle.steps.specs.Turns.{refusalOf, turnsOf, turnOf, ranOf, begun, noStep, carried, written}
 use Rattle.steps.specs.RunMeets.{RunMeets}
 use Rattle.steps.specs.declared.lent.Running.{Running}
-
-abbrev pub begun : Board → Running
-begun b = record { board = b; zeros = 0; answer = 0 }
-
--- what a read past the end would give; no turn makes one
-abbrev pub noStep : StepRecord
-noStep = record { kind = 0; unit = 0; other = 0; slot = 0 }
-
--- after i turns: what is carried, and the buffer
-abbrev pub carried : Running → List StepRecord → ℕ → Running
-carried t rs zero = t
-carried t rs (suc i) = turnOf (carried t rs i) (getD rs i noStep)
-
-abbrev pub written : Running → List StepRecord → List ℕ → ℕ → List ℕ
-written t rs out zero = out
-written t rs out (suc i) = set (written t rs out i) i (carried t rs (suc i) .answer)
-
-pub written-length : (t : Running) (rs : List StepRecord) (out : List ℕ) (i : ℕ) → length (written t rs out i) ≡ length out
-written-length t rs out zero = refl
-written-length t rs out (suc i) = length-set (written t rs out i) i _ ∙ written-length t rs out i
 
 -- ---- on a sound board every turn has a sound board, and no more zeros than turns
 pub carried-sound : (b : Board) (rs : List StepRecord) (i : ℕ) → sound b ≡ true → sound (carried (begun b) rs i .board) ≡ true
@@ -93,6 +73,11 @@ all-answers t (r ∷ rs) [] l = absurd (not-suc-le-zero l)
 all-answers t (r ∷ rs) (k ∷ out) l =
     written-cons t r rs k out (length rs)
     ∙ ap (λ (ks : List ℕ). step (t .board) r .answer ∷ ks) (all-answers (turnOf t r) rs out (le-of-suc-le-suc l))
+
+-- the buffer keeps its length
+pub written-length : (t : Running) (rs : List StepRecord) (out : List ℕ) (i : ℕ) → length (written t rs out i) ≡ length out
+written-length t rs out zero = refl
+written-length t rs out (suc i) = length-set (written t rs out i) _ _ ∙ written-length t rs out i
 
 -- ---- where a turn is taken, the run is not refused: the board is sound, and there are a step and a place for its answer
 pub record Allowed (b : Board) (steps room i : ℕ) : Type 0 where

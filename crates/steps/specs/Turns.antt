@@ -1,7 +1,8 @@
--- A run in parts: what refuses it before any step, its turns, and what it gives in the end.
+-- A run in parts: what refuses it before any step, its turns one by one, and what it gives in the end.
 use mathlib.Core.Bool.{cond}
-use mathlib.Core.List.{[], _∷_}
-use Prim.Native.Nat.{ℕ, suc}
+use mathlib.Core.List.{List, [], _∷_}
+use Prim.Native.Nat.{ℕ, zero, suc}
+use lib.ListN.{getD, set}
 use lib.Dec.{eqb}
 use Rattle.rules.specs.Facts.{check, atMost, holds, judge}
 use Rattle.rules.specs.Sound.{sound}
@@ -27,6 +28,23 @@ turnOf t r = record {
   zeros = cond (eqb (step (t .board) r .answer) 0) (suc (t .zeros)) (t .zeros);
   answer = step (t .board) r .answer;
 }
+
+-- before the first turn
+abbrev pub begun : Board → Running
+begun b = record { board = b; zeros = 0; answer = 0 }
+
+-- what a read past the end of the list would give; no turn makes one
+abbrev pub noStep : StepRecord
+noStep = record { kind = 0; unit = 0; other = 0; slot = 0 }
+
+-- after i turns: what is carried, and the buffer, in which turn i wrote its answer at i
+abbrev pub carried : Running → List StepRecord → ℕ → Running
+carried t rs zero = t
+carried t rs (suc i) = turnOf (carried t rs i) (getD rs i noStep)
+
+abbrev pub written : Running → List StepRecord → List ℕ → ℕ → List ℕ
+written t rs out zero = out
+written t rs out (suc i) = set (written t rs out i) i (carried t rs (suc i) .answer)
 
 -- the zeros counted, or the refusal k
 abbrev pub ranOf : ℕ → ℕ → Ran

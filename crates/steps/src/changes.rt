@@ -59,17 +59,17 @@ fn change_of(e: Effect, x: UnitRecord, y: Slot, debt: u64) -> Change
             unit: x,
             slot: y,
         },
-        Effect::OnUnit(unit, debt) => Change {
+        Effect::OnUnit(z, debt) => Change {
             answer: 0,
             debt,
-            unit,
+            unit: z,
             slot: y,
         },
-        Effect::OnSlot(slot, debt) => Change {
+        Effect::OnSlot(z, debt) => Change {
             answer: 0,
             debt,
             unit: x,
-            slot,
+            slot: z,
         },
         Effect::OnBoth(unit, slot, debt) => Change {
             answer: 0,

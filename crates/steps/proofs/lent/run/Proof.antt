@@ -41,8 +41,8 @@ use denote.Signature.{plain, shrSliceOf}
 use Rattle.rules.specs.declared.Board.{Board}
 use Rattle.rules.specs.declared.StepRecord.{StepRecord}
 use Rattle.rules.specs.declared.Ran.{Ran}
-use Rattle.steps.specs.Turns.{refusalOf, turnsOf, turnOf, ranOf}
-use Rattle.steps.proofs.RunLaws.{begun, noStep, carried, written, run-meets}
+use Rattle.steps.specs.Turns.{refusalOf, turnsOf, turnOf, ranOf, begun, noStep, carried, written}
+use Rattle.steps.proofs.RunLaws.{run-meets}
 use Rattle.steps.proofs.Walking.{number, tailOf, Places, envOf, lives, laid, begins, aside, frees1, frees-room, frees0, spelled, local-at, field-at, behind, lets, sets, stores, lands-at, asks}
 use Rattle.steps.proofs.Lending.{Opened, OpenedSlice, opens-at, closes-at, opens-slice-at, closes-slice-at, looks-slice-at}
 use Rattle.steps.proofs.PlainData.{board, stepRecord, running, ran}
@@ -63,7 +63,7 @@ use Rattle.steps.proofs.lent.run as run
 use Rattle.steps.proofs.lent.run.Statement as stated
 use Rattle.steps.proofs.lent.run.Code as code
 use Rattle.steps.proofs.lent.run.Code.Mir as mir-of
-use Rattle.steps.proofs.lent.run.Proof.TurnState.{Carries, board-is, zeros-is, answer-is, begun-is, Taken, Nearer, nearer-wf, start, long, here, next, Turnable, turnable}
+use Rattle.steps.proofs.lent.run.Proof.TurnState.{board-is, zeros-is, answer-is, begun-is, Taken, Nearer, nearer-wf, start, long, here, next, Turnable, turnable}
 use Rattle.steps.proofs.lent.run.Proof.Callees.{RunRefusal, Turns, Turn, End, Known, refusal-gives, turns-gives, turn-gives, end-gives}
 mod TurnState
 mod Callees

@@ -18,9 +18,9 @@ use denote.Struct.Laws as structs
 use Rattle.rules.specs.Sound.{sound}
 use Rattle.rules.specs.declared.Board.{Board}
 use Rattle.rules.specs.declared.StepRecord.{StepRecord}
-use Rattle.steps.specs.Turns.{refusalOf, turnsOf, turnOf}
+use Rattle.steps.specs.Turns.{refusalOf, turnsOf, turnOf, begun, noStep, carried, written}
 use Rattle.steps.specs.declared.lent.Running.{Running}
-use Rattle.steps.proofs.RunLaws.{begun, noStep, carried, written, written-length, carried-sound, zeros-le, allowed}
+use Rattle.steps.proofs.RunLaws.{written-length, carried-sound, zeros-le, allowed}
 use Rattle.steps.proofs.PlainData.{board, stepRecord, running}
 use Rattle.steps.proofs.lent.Running as R
 use Rattle.steps.proofs.lent.Running.Laws as R′
