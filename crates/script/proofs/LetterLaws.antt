@@ -1,0 +1,94 @@
+-- A step's line, row by row: its word has a number and no tab, its letters are few and small, and its line is short.
+use mathlib.Core.Path.{_≡_, refl, sym, _∙_}
+use mathlib.Core.Bool.{false}
+use mathlib.Core.List.{List, [], _∷_}
+use Prim.Native.Nat.{ℕ, _+_, _-_, _≤_, _<_}
+use native.Mathlib.Omega.{arith}
+use lib.ListN.{length, take, getD, set, length-append}
+use lib.Seq.{sets, sets-eq, take-at}
+use Rattle.placing.specs.declared.Wrote.{Wrote}
+use Rattle.placing.specs.declared.Wrote.the-variants.{Refused}
+use Rattle.placing.proofs.Stores.{sets-append}
+use Rattle.placing.proofs.WriteLaws.{Writes}
+use Rattle.rules.specs.Steps.{actionOf}
+use Rattle.rules.specs.Letters.{isKnown}
+use Rattle.rules.specs.declared.Action.{Action}
+use Rattle.rules.specs.declared.Action.the-variants.{Unknown, Start, Send, Request, Deliver, Rest, Tick, Release}
+use Rattle.rules.specs.declared.StepRecord.{StepRecord}
+use Rattle.script.specs.Words.{words}
+use Rattle.script.specs.Writing.{lettersOf, tabbed, stepLine, stepText, stepWrote, stepWritten}
+use Rattle.script.proofs.KindLaws.{by-kind, known-in}
+use Rattle.script.proofs.TabLaws.{Small, tabbed-length}
+
+-- the fields of a record are numbers of 16 bits
+abbrev pub Fits16 : StepRecord → Type 0
+Fits16 r = (r .unit ≤ 65535) × (r .other ≤ 65535) × (r .slot ≤ 65535)
+
+pub letters-small : (r : StepRecord) (a : Action) → Fits16 r → Small (lettersOf r a)
+letters-small r Unknown h = tt
+letters-small r Start h = (h .0, tt)
+letters-small r Send h = (h .0, (h .1, (h .2, tt)))
+letters-small r Request h = (h .0, (h .2, tt))
+letters-small r Deliver h = (h .2, tt)
+letters-small r Rest h = (h .0, tt)
+letters-small r Tick h = (h .0, tt)
+letters-small r Release h = (h .0, (h .2, tt))
+
+letters-few : (r : StepRecord) (a : Action) → length (lettersOf r a) ≤ 3
+letters-few r Unknown = omega arith
+letters-few r Start = omega arith
+letters-few r Send = omega arith
+letters-few r Request = omega arith
+letters-few r Deliver = omega arith
+letters-few r Rest = omega arith
+letters-few r Tick = omega arith
+letters-few r Release = omega arith
+
+word-short : (k : ℕ) → 1 ≤ k → k ≤ 7 → length (getD words k []) ≤ 7
+word-short = by-kind (λ k. length (getD words k []) ≤ 7) (omega arith) (omega arith) (omega arith) (omega arith) (omega arith) (omega arith) (omega arith)
+
+pub line-short : (r : StepRecord) → 1 ≤ r .kind → r .kind ≤ 7 → Fits16 r → length (stepLine r) ≤ 25
+unfolding stepLine
+line-short r l u h =
+    let ns : List ℕ = lettersOf r (actionOf (r .kind)) in
+    omega (arith, length-append (getD words (r .kind) []) (tabbed ns), word-short (r .kind) l u, tabbed-length ns (letters-small r (actionOf (r .kind)) h), letters-few r (actionOf (r .kind)))
+
+-- ---- a step's line put together in a blank buffer: its word, its letters behind it, and byte 10
+module _ (r : StepRecord) (blank : List ℕ) {from : ℕ} {first ns : List ℕ} (n : from ≡ length (getD words (r .kind) [])) (f : first ≡ sets blank 0 (getD words (r .kind) [])) (ls : ns ≡ lettersOf r (actionOf (r .kind))) where
+  pub line-length : from + length (tabbed ns) ≡ length (stepLine r)
+  unfolding stepLine
+  line-length = rw (ls, n) (sym (length-append (getD words (r .kind) []) (tabbed (lettersOf r (actionOf (r .kind))))))
+
+  module _ {end : ℕ} {both : List ℕ} (e : end ≡ from + length (tabbed ns)) (s : both ≡ sets first from (tabbed ns)) where
+    pub line-ends : end ≡ length (stepLine r)
+    line-ends = e ∙ line-length
+
+    line-written : both ≡ sets blank 0 (stepLine r)
+    unfolding stepLine
+    line-written =
+        let start : from ≡ 0 + length (getD words (r .kind) []) = omega (arith, n) in
+        s ∙ rw (ls, f, start) (sets-append blank 0 (getD words (r .kind) []) (tabbed (lettersOf r (actionOf (r .kind)))))
+
+    text-written : set both end 10 ≡ sets blank 0 (stepText r)
+    text-written =
+        let place : end ≡ 0 + length (stepLine r) = omega (arith, line-ends) in
+        rw (line-written, place) (sets-append blank 0 (stepLine r) (10 ∷ []))
+
+    pub text-taken : length (stepLine r) < length blank → take (end + 1 - 0) (set both end 10) ≡ stepText r
+    text-taken room =
+        let long : length (stepText r) ≡ length (stepLine r) + 1 = length-append (stepLine r) (10 ∷ []) in
+        let all : end + 1 - 0 ≡ length (stepText r) = omega (arith, line-ends) in
+        rw (all, text-written, sets-eq (stepText r) blank 0 (omega arith)) (take-at (stepText r) _ (length (stepText r)) refl)
+
+-- ---- a step at a place of a buffer: refused by its kind, or as its text is
+module _ (r : StepRecord) (at : ℕ) (out : List ℕ) where
+  abbrev StepWrites : Wrote → List ℕ → Type 0
+  StepWrites w left = (w ≡ stepWrote r at out) × (left ≡ stepWritten r at out)
+
+  pub step-unknown : isKnown (actionOf (r .kind)) ≡ false → StepWrites (Refused 16) out
+  unfolding stepWrote stepWritten
+  step-unknown e = (rw e, rw e)
+
+  pub step-known : 1 ≤ r .kind → r .kind ≤ 7 → {w : Wrote} {left : List ℕ} → Writes (stepText r) at out w left → StepWrites w left
+  unfolding stepWrote stepWritten
+  step-known l u h = let e = known-in (r .kind) l u in (rw e (h .0), rw e (h .1))

@@ -1,0 +1,9 @@
+pub mod WordLaws
+pub mod KindLaws
+pub mod ArgumentLaws
+pub mod LineLaws
+pub mod TabLaws
+pub mod LetterLaws
+pub mod JoinLaws
+pub mod RoundTrip
+pub mod ParentLaws

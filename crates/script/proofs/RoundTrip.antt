@@ -1,0 +1,105 @@
+-- A step that is written and read back is the step with its unused fields 0.
+use mathlib.Core.Path.{_≡_, refl, ap, _∙_}
+use mathlib.Core.Bool.{true, false}
+use mathlib.Core.List.{List, []}
+use Prim.Native.Nat.{ℕ, zero, suc, _≤_}
+use native.Mathlib.Nat.{not-suc-le-zero}
+use native.Mathlib.Omega.{arith}
+use lib.ListN.{length, getD}
+use Rattle.rules.specs.Facts.{Claim, Claims}
+use Rattle.rules.specs.Steps.{actionOf}
+use Rattle.rules.specs.Letters.{usedFields, used}
+use Rattle.rules.specs.declared.Action.{Action}
+use Rattle.rules.specs.declared.Action.the-variants.{Unknown, Start, Send, Request, Deliver, Rest, Tick, Release}
+use Rattle.rules.specs.declared.StepRecord.{StepRecord}
+use Rattle.rules.proofs.FactLaws.{asked, judge-passed}
+use Rattle.fields.specs.Fields.{tab, countOf, fieldOf, fieldCount}
+use Rattle.script.specs.Words.{words, sameBytes, placeOf, wordNumber}
+use Rattle.script.specs.Lines.{arguments, allNumbers, values, letterCount, rightCount, lineChecks, recordBy, readingBy, reading}
+use Rattle.script.specs.Writing.{lettersOf, stepLine}
+use Rattle.script.specs.RoundTrips.{RoundTrip}
+use Rattle.script.specs.declared.Reading.the-variants.{Asks, Refused}
+use Rattle.script.proofs.KindLaws.{by-kind, known-range}
+use Rattle.script.proofs.LineLaws.{asks}
+use Rattle.script.proofs.TabLaws.{Small}
+use Rattle.script.proofs.LetterLaws.{Fits16, letters-small, line-short}
+use Rattle.script.proofs.JoinLaws.{first-tabbed, count-tabbed, arguments-tabbed, numbers-tabbed, values-tabbed}
+
+-- ---- the rows: each word has its number and no tab, each kind its letters
+abbrev wordOf : ℕ → List ℕ
+wordOf k = getD words k []
+
+word-none : (k : ℕ) → 1 ≤ k → k ≤ 7 → countOf tab (wordOf k) ≡ 0
+unfolding countOf
+word-none = by-kind (λ k. countOf tab (wordOf k) ≡ 0) refl refl refl refl refl refl refl
+
+word-back : (k : ℕ) → 1 ≤ k → k ≤ 7 → wordNumber (wordOf k) ≡ k
+unfolding placeOf sameBytes
+word-back = by-kind (λ k. wordNumber (wordOf k) ≡ k) refl refl refl refl refl refl refl
+
+letters-count : (r : StepRecord) (a : Action) → length (lettersOf r a) ≡ letterCount a
+letters-count r Unknown = refl
+letters-count r Start = refl
+letters-count r Send = refl
+letters-count r Request = refl
+letters-count r Deliver = refl
+letters-count r Rest = refl
+letters-count r Tick = refl
+letters-count r Release = refl
+
+letters-back : (r : StepRecord) (a : Action) → recordBy (r .kind) (lettersOf r a) a ≡ usedFields r a
+letters-back r Unknown = refl
+letters-back r Start = refl
+letters-back r Send = refl
+letters-back r Request = refl
+letters-back r Deliver = refl
+letters-back r Rest = refl
+letters-back r Tick = refl
+letters-back r Release = refl
+
+count-right : (k n : ℕ) → 1 ≤ k → n ≡ suc (letterCount (actionOf k)) → Claim (rightCount k n)
+count-right zero n l e = absurd (not-suc-le-zero l)
+count-right (suc k) n l e = e
+
+-- ---- the line of a step
+module _ (r : StepRecord) (l : 1 ≤ r .kind) (u : r .kind ≤ 7) (h : Fits16 r) where
+  abbrev ns : List ℕ
+  ns = lettersOf r (actionOf (r .kind))
+
+  small : Small ns
+  small = letters-small r (actionOf (r .kind)) h
+
+  none : countOf tab (wordOf (r .kind)) ≡ 0
+  none = word-none (r .kind) l u
+
+  line-word : wordNumber (fieldOf 0 (stepLine r)) ≡ r .kind
+  unfolding stepLine
+  line-word = ap wordNumber (first-tabbed (wordOf (r .kind)) ns none) ∙ word-back (r .kind) l u
+
+  line-count : fieldCount (stepLine r) ≡ suc (letterCount (actionOf (r .kind)))
+  unfolding stepLine
+  line-count = count-tabbed (wordOf (r .kind)) ns none small ∙ ap suc (letters-count r (actionOf (r .kind)))
+
+  line-numbers : allNumbers (arguments (stepLine r)) ≡ true
+  unfolding stepLine
+  line-numbers = ap allNumbers (arguments-tabbed (wordOf (r .kind)) ns none small) ∙ numbers-tabbed ns small
+
+  line-values : values (arguments (stepLine r)) ≡ ns
+  unfolding stepLine
+  line-values = ap values (arguments-tabbed (wordOf (r .kind)) ns none small) ∙ values-tabbed ns small
+
+  line-passes : Claims (asked (lineChecks false (stepLine r)))
+  line-passes =
+      let w = line-word in
+      (omega (arith, line-short r l u h), (omega (arith, line-word, u), (omega (arith, line-word, l), (rw line-word (count-right (r .kind) (fieldCount (stepLine r)) l line-count), (line-numbers, tt)))))
+
+  line-says : readingBy (wordNumber (fieldOf 0 (stepLine r))) (values (arguments (stepLine r))) ≡ Asks (used r)
+  unfolding used
+  line-says = rw (line-word, line-values) (asks (r .kind) ns (λ z. omega (arith, z, l)) ∙ ap Asks (letters-back r (actionOf (r .kind))))
+
+  read-back : reading false (stepLine r) ≡ Asks (used r)
+  unfolding reading
+  read-back = judge-passed Refused (lineChecks false (stepLine r)) (readingBy (wordNumber (fieldOf 0 (stepLine r))) (values (arguments (stepLine r)))) line-passes ∙ line-says
+
+pub round-trip : RoundTrip
+round-trip r e u v s = let k = known-range (r .kind) e in read-back r (k .0) (k .1) (u, v, s)

@@ -1,0 +1,87 @@
+-- Reading a line of a script, handed over without its byte 10.
+use mathlib.Core.Bool.{Bool, true, false, _&&_}
+use mathlib.Core.List.{List, [], _∷_}
+use Prim.Native.Nat.{ℕ, zero, suc, _-_}
+use lib.ListN.{length, getD, drop}
+use Rattle.rules.specs.Facts.{Fact, Check, check, below, atMost, equal, holds, judge}
+use Rattle.rules.specs.Steps.{actionOf}
+use Rattle.rules.specs.declared.Action.{Action}
+use Rattle.rules.specs.declared.Action.the-variants.{Unknown, Start, Send, Request, Deliver, Rest, Tick, Release}
+use Rattle.rules.specs.declared.StepRecord.{StepRecord}
+use Rattle.decimal.specs.Reading.{isNumber, valueFrom}
+use Rattle.fields.specs.Fields.{fieldOf, fieldCount}
+use Rattle.script.specs.Words.{wordNumber}
+use Rattle.script.specs.declared.Reading.{Reading}
+use Rattle.script.specs.declared.Reading.the-variants.{Opens, Asks, Refused}
+
+-- ---- the fields behind the word
+-- n fields from field i on
+unfoldable pub fieldsFrom : ℕ → ℕ → List ℕ → List (List ℕ)
+fieldsFrom zero i l = []
+fieldsFrom (suc n) i l = fieldOf i l ∷ fieldsFrom n (suc i) l
+
+abbrev pub arguments : List ℕ → List (List ℕ)
+arguments l = fieldsFrom (fieldCount l - 1) 1 l
+
+unfoldable pub allNumbers : List (List ℕ) → Bool
+allNumbers [] = true
+allNumbers (f ∷ fs) = isNumber f && allNumbers fs
+
+unfoldable pub values : List (List ℕ) → List ℕ
+values [] = []
+values (f ∷ fs) = valueFrom 0 f ∷ values fs
+
+-- ---- what a line says
+-- how many letters a step has
+abbrev pub letterCount : Action → ℕ
+letterCount Unknown = 0
+letterCount Start = 1
+letterCount Send = 3
+letterCount Request = 2
+letterCount Deliver = 1
+letterCount Rest = 1
+letterCount Tick = 1
+letterCount Release = 2
+
+-- board has M, d, then 0 or more parents; a step has its letters
+abbrev pub rightCount : ℕ → ℕ → Fact
+rightCount zero fields = atMost 3 fields
+rightCount (suc k) fields = equal fields (suc (letterCount (actionOf (suc k))))
+
+-- 25 first line not board, or board later
+abbrev pub rightPlace : Bool → ℕ → Fact
+rightPlace true w = equal w 0
+rightPlace false w = atMost 1 w
+
+-- 21 line over 255 bytes, 22 unknown word, 25, 23 wrong count of fields, 24 a field that is no number: in this order
+abbrev pub lineChecks : Bool → List ℕ → List Check
+lineChecks first l =
+    check (atMost (length l) 255) 21
+    ∷ check (below (wordNumber (fieldOf 0 l)) 8) 22
+    ∷ check (rightPlace first (wordNumber (fieldOf 0 l))) 25
+    ∷ check (rightCount (wordNumber (fieldOf 0 l)) (fieldCount l)) 23
+    ∷ check (holds (allNumbers (arguments l))) 24
+    ∷ []
+
+-- a step record of a kind from its letters' values, with 0 in the fields that the kind has no letter for
+abbrev pub recordBy : ℕ → List ℕ → Action → StepRecord
+recordBy k vs Unknown = record { kind = k; unit = 0; other = 0; slot = 0 }
+recordBy k vs Start = record { kind = k; unit = getD vs 0 0; other = 0; slot = 0 }
+recordBy k vs Send = record { kind = k; unit = getD vs 0 0; other = getD vs 1 0; slot = getD vs 2 0 }
+recordBy k vs Request = record { kind = k; unit = getD vs 0 0; other = 0; slot = getD vs 1 0 }
+recordBy k vs Deliver = record { kind = k; unit = 0; other = 0; slot = getD vs 0 0 }
+recordBy k vs Rest = record { kind = k; unit = getD vs 0 0; other = 0; slot = 0 }
+recordBy k vs Tick = record { kind = k; unit = getD vs 0 0; other = 0; slot = 0 }
+recordBy k vs Release = record { kind = k; unit = getD vs 0 0; other = 0; slot = getD vs 1 0 }
+
+-- M, d and the number of parents, or a step
+abbrev pub readingBy : ℕ → List ℕ → Reading
+readingBy zero vs = Opens (getD vs 0 0) (getD vs 1 0) (length vs - 2)
+readingBy (suc k) vs = Asks (recordBy (suc k) vs (actionOf (suc k)))
+
+unfoldable pub reading : Bool → List ℕ → Reading
+reading first l = judge Refused (lineChecks first l) (readingBy (wordNumber (fieldOf 0 l)) (values (arguments l)))
+
+-- the parents of a board line
+unfoldable pub parentsOf : List ℕ → List ℕ
+parentsOf l = drop 2 (values (arguments l))

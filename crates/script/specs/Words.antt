@@ -1,0 +1,48 @@
+-- The words of a script, as bytes.
+use mathlib.Core.Bool.{Bool, true, false, cond, _&&_}
+use mathlib.Core.List.{List, [], _∷_}
+use Prim.Native.Nat.{ℕ, suc}
+use lib.Dec.{eqb}
+
+abbrev pub boardWord : List ℕ
+boardWord = 98 ∷ 111 ∷ 97 ∷ 114 ∷ 100 ∷ []
+
+abbrev pub startWord : List ℕ
+startWord = 115 ∷ 116 ∷ 97 ∷ 114 ∷ 116 ∷ []
+
+abbrev pub sendWord : List ℕ
+sendWord = 115 ∷ 101 ∷ 110 ∷ 100 ∷ []
+
+abbrev pub requestWord : List ℕ
+requestWord = 114 ∷ 101 ∷ 113 ∷ 117 ∷ 101 ∷ 115 ∷ 116 ∷ []
+
+abbrev pub deliverWord : List ℕ
+deliverWord = 100 ∷ 101 ∷ 108 ∷ 105 ∷ 118 ∷ 101 ∷ 114 ∷ []
+
+abbrev pub restWord : List ℕ
+restWord = 114 ∷ 101 ∷ 115 ∷ 116 ∷ []
+
+abbrev pub tickWord : List ℕ
+tickWord = 116 ∷ 105 ∷ 99 ∷ 107 ∷ []
+
+abbrev pub releaseWord : List ℕ
+releaseWord = 114 ∷ 101 ∷ 108 ∷ 101 ∷ 97 ∷ 115 ∷ 101 ∷ []
+
+-- board at 0, and each step's word at the step's kind
+abbrev pub words : List (List ℕ)
+words = boardWord ∷ startWord ∷ sendWord ∷ requestWord ∷ deliverWord ∷ restWord ∷ tickWord ∷ releaseWord ∷ []
+
+unfoldable pub sameBytes : List ℕ → List ℕ → Bool
+sameBytes [] [] = true
+sameBytes [] (d ∷ ds) = false
+sameBytes (c ∷ cs) [] = false
+sameBytes (c ∷ cs) (d ∷ ds) = eqb c d && sameBytes cs ds
+
+-- the place of the first of the words vs that w is, their number where it is none
+unfoldable pub placeOf : List ℕ → List (List ℕ) → ℕ
+placeOf w [] = 0
+placeOf w (v ∷ vs) = cond (sameBytes w v) 0 (suc (placeOf w vs))
+
+-- 0 for board, 1 to 7 for a step's kind, 8 for any other word
+abbrev pub wordNumber : List ℕ → ℕ
+wordNumber w = placeOf w words

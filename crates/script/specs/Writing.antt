@@ -1,0 +1,45 @@
+-- Writing a step as a line of a script, without leading zeros.
+use mathlib.Core.List.{List, [], _∷_, _++_}
+use Prim.Native.Nat.{ℕ}
+use lib.ListN.{getD}
+use Rattle.rules.specs.Facts.{check, holds, judge}
+use Rattle.rules.specs.Steps.{actionOf}
+use Rattle.rules.specs.Letters.{isKnown}
+use Rattle.rules.specs.declared.Action.{Action}
+use Rattle.rules.specs.declared.Action.the-variants.{Unknown, Start, Send, Request, Deliver, Rest, Tick, Release}
+use Rattle.rules.specs.declared.StepRecord.{StepRecord}
+use Rattle.placing.specs.Placing.{wrote, written}
+use Rattle.placing.specs.declared.Wrote.{Wrote}
+use Rattle.placing.specs.declared.Wrote.the-variants.{Refused}
+use Rattle.decimal.specs.Spelling.{spelled}
+use Rattle.script.specs.Words.{words}
+
+-- the values of a step's letters, in the order in which they are written
+abbrev pub lettersOf : StepRecord → Action → List ℕ
+lettersOf r Unknown = []
+lettersOf r Start = r .unit ∷ []
+lettersOf r Send = r .unit ∷ r .other ∷ r .slot ∷ []
+lettersOf r Request = r .unit ∷ r .slot ∷ []
+lettersOf r Deliver = r .slot ∷ []
+lettersOf r Rest = r .unit ∷ []
+lettersOf r Tick = r .unit ∷ []
+lettersOf r Release = r .unit ∷ r .slot ∷ []
+
+-- each number behind a tab
+unfoldable pub tabbed : List ℕ → List ℕ
+tabbed [] = []
+tabbed (n ∷ ns) = 9 ∷ spelled n ++ tabbed ns
+
+-- the line without its byte 10, and with it
+unfoldable pub stepLine : StepRecord → List ℕ
+stepLine r = getD words (r .kind) [] ++ tabbed (lettersOf r (actionOf (r .kind)))
+
+abbrev pub stepText : StepRecord → List ℕ
+stepText r = stepLine r ++ 10 ∷ []
+
+-- 16 kind outside 1 to 7, before 27
+unfoldable pub stepWrote : StepRecord → ℕ → List ℕ → Wrote
+stepWrote r at out = judge Refused (check (holds (isKnown (actionOf (r .kind)))) 16 ∷ []) (wrote (stepText r) at out)
+
+unfoldable pub stepWritten : StepRecord → ℕ → List ℕ → List ℕ
+stepWritten r at out = judge (λ k. out) (check (holds (isKnown (actionOf (r .kind)))) 16 ∷ []) (written (stepText r) at out)
