@@ -15,69 +15,71 @@ use Rattle.rules.specs.Runs.{zeros, runAnswer, runBoard, runBuffer, ranSteps}
 use Rattle.rules.specs.Guarantee.{Carries}
 use Rattle.rules.specs.declared.Board.{Board}
 use Rattle.rules.specs.declared.StepRecord.{StepRecord}
+use Rattle.rules.specs.declared.Outcome.{Outcome}
 use Rattle.rules.specs.declared.Ran.{Ran}
 use Rattle.rules.specs.declared.Ran.the-variants.{Zeros, Refused}
 use Rattle.rules.proofs.SoundLaws.{sound-claims, sound-tested}
 use Rattle.rules.proofs.ListLaws.{step-keeps-sound}
 use Rattle.rules.proofs.Theorem.{carries}
-use Rattle.steps.specs.Turns.{refusalOf, turnsOf, turnOf, ranOf, begun, noStep, carried, written}
+use Rattle.steps.specs.Turns.{refusalOf, turnsOf, countedOf, begun, noStep, taken, counts, written, ranOf}
 use Rattle.steps.specs.RunMeets.{RunMeets}
-use Rattle.steps.specs.declared.lent.Running.{Running}
 
 -- ---- on a sound board every turn has a sound board, and no more zeros than turns
-pub carried-sound : (b : Board) (rs : List StepRecord) (i : ℕ) → sound b ≡ true → sound (carried (begun b) rs i .board) ≡ true
-unfolding turnOf
-carried-sound b rs zero s = s
-carried-sound b rs (suc i) s =
-    let c : Board = carried (begun b) rs i .board in
-    sound-tested _ (step-keeps-sound c (getD rs i noStep) (sound-claims c (carried-sound b rs i s)))
+pub taken-sound : (b : Board) (rs : List StepRecord) (i : ℕ) → sound b ≡ true → sound (taken (begun b) rs i .board) ≡ true
+taken-sound b rs zero s = s
+taken-sound b rs (suc i) s =
+    let c : Board = taken (begun b) rs i .board in
+    sound-tested _ (step-keeps-sound c (getD rs i noStep) (sound-claims c (taken-sound b rs i s)))
 
 counted-le : (t : Bool) (z i : ℕ) → z ≤ i → cond t (suc z) z ≤ suc i
 counted-le true z i l = omega (arith, l)
 counted-le false z i l = omega (arith, l)
 
-pub zeros-le : (b : Board) (rs : List StepRecord) (i : ℕ) → carried (begun b) rs i .zeros ≤ i
-unfolding turnOf
-zeros-le b rs zero = omega arith
-zeros-le b rs (suc i) = counted-le (eqb (step (carried (begun b) rs i .board) (getD rs i noStep) .answer) 0) (carried (begun b) rs i .zeros) i (zeros-le b rs i)
+pub counts-le : (o : Outcome) (rs : List StepRecord) (i : ℕ) → counts o rs 0 i ≤ i
+counts-le o rs zero = omega arith
+counts-le o rs (suc i) = counted-le (eqb (taken o rs (suc i) .answer) 0) (counts o rs 0 i) i (counts-le o rs i)
 
 -- ---- the first step, and the others
-carried-cons : (t : Running) (r : StepRecord) (rs : List StepRecord) (i : ℕ) → carried t (r ∷ rs) (suc i) ≡ carried (turnOf t r) rs i
-carried-cons t r rs zero = refl
-carried-cons t r rs (suc i) = ap (λ (u : Running). turnOf u (getD rs i noStep)) (carried-cons t r rs i)
+taken-cons : (o : Outcome) (r : StepRecord) (rs : List StepRecord) (i : ℕ) → taken o (r ∷ rs) (suc i) ≡ taken (step (o .board) r) rs i
+taken-cons o r rs zero = refl
+taken-cons o r rs (suc i) = ap (λ (p : Outcome). step (p .board) (getD rs i noStep)) (taken-cons o r rs i)
 
-written-cons : (t : Running) (r : StepRecord) (rs : List StepRecord) (k : ℕ) (out : List ℕ) (i : ℕ) → written t (r ∷ rs) (k ∷ out) (suc i) ≡ turnOf t r .answer ∷ written (turnOf t r) rs out i
-written-cons t r rs k out zero = refl
-written-cons t r rs k out (suc i) = λ j. set (written-cons t r rs k out i j) (suc i) (carried-cons t r rs (suc i) j .answer)
+counts-cons : (o : Outcome) (r : StepRecord) (rs : List StepRecord) (z i : ℕ) → counts o (r ∷ rs) z (suc i) ≡ counts (step (o .board) r) rs (countedOf z (step (o .board) r .answer)) i
+counts-cons o r rs z zero = refl
+counts-cons o r rs z (suc i) = λ j. countedOf (counts-cons o r rs z i j) (taken-cons o r rs (suc i) j .answer)
 
-all-board : (t : Running) (rs : List StepRecord) → carried t rs (length rs) .board ≡ after (t .board) rs
-unfolding turnOf after
-all-board t [] = refl
-all-board t (r ∷ rs) = ap (λ (u : Running). u .board) (carried-cons t r rs (length rs)) ∙ all-board (turnOf t r) rs
+written-cons : (o : Outcome) (r : StepRecord) (rs : List StepRecord) (k : ℕ) (out : List ℕ) (i : ℕ) → written o (r ∷ rs) (k ∷ out) (suc i) ≡ step (o .board) r .answer ∷ written (step (o .board) r) rs out i
+written-cons o r rs k out zero = refl
+written-cons o r rs k out (suc i) = λ j. set (written-cons o r rs k out i j) (suc i) (taken-cons o r rs (suc i) j .answer)
+
+all-board : (o : Outcome) (rs : List StepRecord) → taken o rs (length rs) .board ≡ after (o .board) rs
+unfolding after
+all-board o [] = refl
+all-board o (r ∷ rs) = ap (λ (p : Outcome). p .board) (taken-cons o r rs (length rs)) ∙ all-board (step (o .board) r) rs
 
 counted-sum : (t : Bool) (m k : ℕ) → cond t (suc m) m + k ≡ m + cond t (suc k) k
 counted-sum true m k = omega arith
 counted-sum false m k = refl
 
-all-zeros : (t : Running) (rs : List StepRecord) → carried t rs (length rs) .zeros ≡ t .zeros + zeros (answers (t .board) rs)
-unfolding turnOf zeros answers
-all-zeros t [] = omega arith
-all-zeros t (r ∷ rs) =
-    ap (λ (u : Running). u .zeros) (carried-cons t r rs (length rs)) ∙ all-zeros (turnOf t r) rs
-    ∙ counted-sum (eqb (step (t .board) r .answer) 0) (t .zeros) (zeros (answers (step (t .board) r .board) rs))
+all-zeros : (o : Outcome) (rs : List StepRecord) (z : ℕ) → counts o rs z (length rs) ≡ z + zeros (answers (o .board) rs)
+unfolding zeros answers
+all-zeros o [] z = omega arith
+all-zeros o (r ∷ rs) z =
+    let p : Outcome = step (o .board) r in
+    counts-cons o r rs z (length rs) ∙ all-zeros p rs (countedOf z (p .answer)) ∙ counted-sum (eqb (p .answer) 0) z (zeros (answers (p .board) rs))
 
-all-answers : (t : Running) (rs : List StepRecord) (out : List ℕ) → length rs ≤ length out → written t rs out (length rs) ≡ answers (t .board) rs ++ drop (length rs) out
-unfolding turnOf answers
-all-answers t [] out l = refl
-all-answers t (r ∷ rs) [] l = absurd (not-suc-le-zero l)
-all-answers t (r ∷ rs) (k ∷ out) l =
-    written-cons t r rs k out (length rs)
-    ∙ ap (λ (ks : List ℕ). step (t .board) r .answer ∷ ks) (all-answers (turnOf t r) rs out (le-of-suc-le-suc l))
+all-answers : (o : Outcome) (rs : List StepRecord) (out : List ℕ) → length rs ≤ length out → written o rs out (length rs) ≡ answers (o .board) rs ++ drop (length rs) out
+unfolding answers
+all-answers o [] out l = refl
+all-answers o (r ∷ rs) [] l = absurd (not-suc-le-zero l)
+all-answers o (r ∷ rs) (k ∷ out) l =
+    written-cons o r rs k out (length rs)
+    ∙ ap (λ (ks : List ℕ). step (o .board) r .answer ∷ ks) (all-answers (step (o .board) r) rs out (le-of-suc-le-suc l))
 
 -- the buffer keeps its length
-pub written-length : (t : Running) (rs : List StepRecord) (out : List ℕ) (i : ℕ) → length (written t rs out i) ≡ length out
-written-length t rs out zero = refl
-written-length t rs out (suc i) = length-set (written t rs out i) _ _ ∙ written-length t rs out i
+pub written-length : (o : Outcome) (rs : List StepRecord) (out : List ℕ) (i : ℕ) → length (written o rs out i) ≡ length out
+written-length o rs out zero = refl
+written-length o rs out (suc i) = length-set (written o rs out i) _ _ ∙ written-length o rs out i
 
 -- ---- where a turn is taken, the run is not refused: the board is sound, and there are a step and a place for its answer
 pub record Allowed (b : Board) (steps room i : ℕ) : Type 0 where
@@ -109,36 +111,35 @@ run-carries b rs out = by-tests (sound b) (leb (length rs) (length out))
     by-tests false u = carries-none b
 
 module _ (b : Board) (rs : List StepRecord) (out : List ℕ) (k n : ℕ) (k-is : k ≡ refusalOf b (length rs) (length out)) (n-is : n ≡ turnsOf k (length rs))
-    (t : Running) (ks : List ℕ) (e : Ran) (t-is : t ≡ carried (begun b) rs n) (ks-is : ks ≡ written (begun b) rs out n) (e-is : e ≡ ranOf k (t .zeros)) where
+    (c : Board) (z : ℕ) (ks : List ℕ) (e : Ran) (c-is : c ≡ taken (begun b) rs n .board) (z-is : z ≡ counts (begun b) rs 0 n) (ks-is : ks ≡ written (begun b) rs out n) (e-is : e ≡ ranOf k z) where
   -- refused, no turn is taken
-  refused : (j : ℕ) → eqb j 0 ≡ false → k ≡ j → (e ≡ Refused j) × ((t .board ≡ b) × (ks ≡ out))
-  refused j f z =
-      let none : n ≡ 0 = n-is ∙ ap (λ (i : ℕ). turnsOf i (length rs)) z ∙ ap (λ (u : Bool). cond u (length rs) 0) f in (
-        e-is ∙ ap (λ (i : ℕ). ranOf i (t .zeros)) z ∙ ap (λ (u : Bool). cond u (Zeros (t .zeros)) (Refused j)) f,
-        (ap (λ (u : Running). u .board) (t-is ∙ ap (carried (begun b) rs) none), ks-is ∙ ap (written (begun b) rs out) none),
+  refused : (j : ℕ) → eqb j 0 ≡ false → k ≡ j → (e ≡ Refused j) × ((c ≡ b) × (ks ≡ out))
+  refused j f is-j =
+      let none : n ≡ 0 = n-is ∙ ap (λ (i : ℕ). turnsOf i (length rs)) is-j ∙ ap (λ (u : Bool). cond u (length rs) 0) f in (
+        e-is ∙ ap (λ (i : ℕ). ranOf i z) is-j ∙ ap (λ (u : Bool). cond u (Zeros z) (Refused j)) f,
+        (c-is ∙ ap (λ (i : ℕ). taken (begun b) rs i .board) none, ks-is ∙ ap (written (begun b) rs out) none),
       )
 
   -- else a turn is taken for each step
-  run-whole : k ≡ 0 → length rs ≤ length out → (e ≡ Zeros (zeros (answers b rs))) × ((t .board ≡ after b rs) × (ks ≡ answers b rs ++ drop (length rs) out))
-  run-whole z l =
-      let all : n ≡ length rs = n-is ∙ ap (λ (i : ℕ). turnsOf i (length rs)) z in
-      let t-all : t ≡ carried (begun b) rs (length rs) = t-is ∙ ap (carried (begun b) rs) all in (
-        e-is ∙ ap (λ (i : ℕ). ranOf i (t .zeros)) z ∙ ap Zeros (ap (λ (u : Running). u .zeros) t-all ∙ all-zeros (begun b) rs ∙ omega arith),
+  run-whole : k ≡ 0 → length rs ≤ length out → (e ≡ Zeros (zeros (answers b rs))) × ((c ≡ after b rs) × (ks ≡ answers b rs ++ drop (length rs) out))
+  run-whole is-0 l =
+      let all : n ≡ length rs = n-is ∙ ap (λ (i : ℕ). turnsOf i (length rs)) is-0 in (
+        e-is ∙ ap (λ (i : ℕ). ranOf i z) is-0 ∙ ap Zeros (z-is ∙ ap (counts (begun b) rs 0) all ∙ all-zeros (begun b) rs 0 ∙ omega arith),
         (
-          ap (λ (u : Running). u .board) t-all ∙ all-board (begun b) rs,
+          c-is ∙ ap (λ (i : ℕ). taken (begun b) rs i .board) all ∙ all-board (begun b) rs,
           ks-is ∙ ap (written (begun b) rs out) all ∙ all-answers (begun b) rs out l,
         ),
       )
 
   by-tests : (s u : Bool) → leb (length rs) (length out) ≡ u → k ≡ cond s (cond u 0 15) 30
       → (e ≡ cond s (cond u (Zeros (zeros (answers b rs))) (Refused 15)) (Refused 30))
-      × ((t .board ≡ cond s (cond u (after b rs) b) b) × (ks ≡ cond s (cond u (answers b rs ++ drop (length rs) out) out) out))
-  by-tests true true u z = run-whole z (leb-true (length rs) (length out) u)
-  by-tests true false u z = refused 15 refl z
-  by-tests false u′ u z = refused 30 refl z
+      × ((c ≡ cond s (cond u (after b rs) b) b) × (ks ≡ cond s (cond u (answers b rs ++ drop (length rs) out) out) out))
+  by-tests true true u is-0 = run-whole is-0 (leb-true (length rs) (length out) u)
+  by-tests true false u is-15 = refused 15 refl is-15
+  by-tests false u′ u is-30 = refused 30 refl is-30
 
   -- after n turns the loop has what the run promises
-  pub run-meets : RunMeets b rs out e (t .board) ks
+  pub run-meets : RunMeets b rs out e c ks
   unfolding refusalOf runAnswer runBoard runBuffer
   run-meets =
       let all = by-tests (sound b) (leb (length rs) (length out)) refl k-is in
@@ -146,7 +147,7 @@ module _ (b : Board) (rs : List StepRecord) (out : List ℕ) (k n : ℕ) (k-is :
         gives = all .0;
         board = all .1 .0;
         buffer = all .1 .1;
-        carries = subst (λ (c : Board). Carries b (ranSteps b rs out) c) (sym (all .1 .0)) (run-carries b rs out);
+        carries = subst (λ (d : Board). Carries b (ranSteps b rs out) d) (sym (all .1 .0)) (run-carries b rs out);
       }
 
 -- ---- a part of a list

@@ -160,6 +160,14 @@ module _ {M : Type 1} {𝓤 : URA M} {H : Heap 𝓤} {A : Atoms 𝓤} {K : Type 
   pub frees0 : K → {g : Goal 𝓤 H} → Step K W Γ g (‵ (lives []) ∷ Γ) (frees [] g)
   frees0 t = step (λ s. drop t $ free0 t $ s)
 
+module _ {M : Type 1} {𝓤 : URA M} {H : Heap 𝓤} {A : Atoms 𝓤} {K : Type 0} {W : Given 𝓤 H A} {Γ : List (Item 𝓤)} where
+  -- four at once
+  pub frees4 : K → {τ₁ τ₂ τ₃ τ₄ : Ty} {b₁ b₂ b₃ b₄ : ℕ} {v₁ v₂ v₃ v₄ : Val} {E : Env 𝓤 H} {g : Goal 𝓤 H}
+      → Step K W (‵ (lives E) ∷ Γ) (frees E g)
+      (‵ (lives ((τ₁, b₁) ∷ (τ₂, b₂) ∷ (τ₃, b₃) ∷ (τ₄, b₄) ∷ E)) ∷ ‵ (fat fullShare τ₁ b₁ zero v₁) ∷ ‵ (fat fullShare τ₂ b₂ zero v₂) ∷ ‵ (fat fullShare τ₃ b₃ zero v₃) ∷ ‵ (fat fullShare τ₄ b₄ zero v₄) ∷ Γ)
+      (frees ((τ₁, b₁) ∷ (τ₂, b₂) ∷ (τ₃, b₃) ∷ (τ₄, b₄) ∷ E) g)
+  frees4 t = step (λ s. frees1 t $ frees1 t $ frees1 t $ frees1 t $ s)
+
   module _ {E : Env 𝓤 H} where
     -- a value that is written another way
     pub spelled : K → {rv : RValue} {v v′ : Val} → v ≡ v′ → Rv K W Γ E rv v → Rv K W Γ E rv v′

@@ -1,16 +1,15 @@
 // A step and a run on what is lent: the board by `&mut`, the list of steps by `&`, the answers by `&mut`.
 ghost use mathlib.Core.Path.{_≡_};
-ghost use mathlib.Core.Bool.{true};
 ghost use Prim.Native.Nat.{_+_, _<_, _^_, min};
 ghost use lib.ListN.{take};
-ghost use Rattle.rules.specs.Sound.{sound};
 ghost use Rattle.rules.specs.Steps.{step};
-ghost use Rattle.steps.specs.Turns.{refusalOf, turnsOf, turnOf, ranOf};
+ghost use Rattle.steps.specs.Turns.{refusalOf, turnsOf, countedOf, ranOf};
 ghost use Rattle.steps.specs.RunMeets.{RunMeets};
 use crate::sound_step;
 use crate::step;
 use board::is_sound;
 use rules::Board;
+use rules::Outcome;
 use rules::Ran;
 use rules::StepRecord;
 
@@ -21,13 +20,6 @@ pub fn step_lent(b: &mut Board, r: StepRecord) -> u16
     let o = step(*b, r);
     *b = o.board;
     o.answer
-}
-
-// What a run carries from turn to turn: the board, the zeros counted so far, and the answer of the last step.
-pub(crate) struct Running {
-    pub board: Board,
-    pub zeros: usize,
-    pub answer: u16,
 }
 
 // 0, or the number that refuses a run before any step: 30, then 15.
@@ -53,19 +45,15 @@ fn turns(refusal: u16, steps: usize) -> usize
     0
 }
 
-// One step of a run, on a board that is known to be sound.
-fn turn(mut t: Running, r: StepRecord) -> Running
-    requires { ⌜ (sound (t .board) ≡ true) × (t .zeros + 1 < 2 ^ 64) ⌝ }
-    ensures { λ u. ⌜ u ≡ turnOf t r ⌝ }
+// One more where the answer is 0.
+fn counted(zeros: usize, answer: u16) -> usize
+    requires { ⌜ zeros + 1 < 2 ^ 64 ⌝ }
+    ensures { λ z. ⌜ z ≡ countedOf zeros answer ⌝ }
 {
-    let o = sound_step(t.board, r);
-    let board = o.board;
-    t.board = board;
-    t.answer = o.answer;
-    if o.answer == 0 {
-        t.zeros += 1;
+    if answer == 0 {
+        return zeros + 1;
     }
-    t
+    zeros
 }
 
 // What a run gives in the end.
@@ -84,19 +72,20 @@ pub fn run(b: &mut Board, steps: &[StepRecord], answers: &mut [u16]) -> Ran
 {
     let refusal = run_refusal(*b, steps.len(), answers.len());
     let n = turns(refusal, steps.len());
-    let mut t = Running {
-        board: *b,
-        zeros: 0,
+    let mut o = Outcome {
         answer: 0,
+        board: *b,
     };
+    let mut zeros: usize = 0;
     let mut i: usize = 0;
     while i < n {
-        t = turn(t, steps[i]);
-        answers[i] = t.answer;
+        o = sound_step(o.board, steps[i]);
+        answers[i] = o.answer;
+        zeros = counted(zeros, o.answer);
         i += 1;
     }
-    *b = t.board;
-    ran(refusal, t.zeros)
+    *b = o.board;
+    ran(refusal, zeros)
 }
 
 pub struct RanOn {

@@ -1,4 +1,4 @@
-// A step by value: on a board known to be sound, and on any board; and a run over a batch of steps.
+// A step by value, on a board known to be sound and on any board; in `lent` a step and a run on what is lent, in `batch` a run by value.
 mod batch;
 mod changes;
 mod delivering;

@@ -21,7 +21,6 @@ use denote.Laws.{Is}
 use denote.Builtin.{u16}
 use denote.Ref.{RefT, MutRef, ptr-vals, mut-tells}
 use denote.Steps.{only, owned, nothing}
-use denote.Struct.Laws as structs
 use denote.Triple.Entry.{onEntry}
 use denote.Triple.Spec.{Meets, tripleOf}
 use denote.Triple.Statement.{Contract, Triple}
@@ -33,11 +32,9 @@ use Rattle.rules.specs.Steps.{step as stepOf}
 use Rattle.rules.specs.declared.Board.{Board}
 use Rattle.rules.specs.declared.StepRecord.{StepRecord}
 use Rattle.rules.specs.declared.Outcome.{Outcome}
-use Rattle.rules.proofs.Outcome as O
-use Rattle.rules.proofs.Outcome.Laws as O′
-use Rattle.steps.proofs.Walking.{number, begins, aside, frees1, frees0, local-at, field-at, behind, lets, stores, lands-at, Answer, gives, asks}
+use Rattle.steps.proofs.Walking.{number, begins, aside, frees1, frees4, frees0, local-at, field-at, behind, lets, stores, lands-at, Answer, gives, asks}
 use Rattle.steps.proofs.Lending.{opens-at, closes-at}
-use Rattle.steps.proofs.PlainData.{board, stepRecord, outcome}
+use Rattle.steps.proofs.PlainData.{board, stepRecord, outcome, answer-is, board-is}
 use Rattle.steps.proofs.step as step
 use Rattle.steps.proofs.step.Symbol as step-def
 use Rattle.steps.proofs.step.Symbol.{name as #step}
@@ -50,13 +47,6 @@ use Rattle.steps.proofs.lent.step_lent.Code as code
 -- at exit: of the board what says its last value, of the record nothing
 abbrev stayed : Stays (step-lent.ended .signature .params) (step-lent.ended .kept)
 stayed = (gave-ref (0 ∷ []) tt (plain (λ _. board .row)), (stay-dropped (plain (λ _. stepRecord .row)) yes, tt))
-
--- the fields of an outcome
-answer-is : (o : Outcome) → Is (outcome .row) o (outcome .vals o) → Is u16 (o .answer) (vint w16 (o .answer) ∷ [])
-answer-is o is = structs.owed O.the-type O′.the-laws o (outcome .vals o) is .0
-
-board-is : (o : Outcome) → Is (outcome .row) o (outcome .vals o) → Is (board .row) (o .board) (board .vals (o .board))
-board-is o is = structs.owed O.the-type O′.the-laws o (outcome .vals o) is .1 .0
 
 module _ {M : Type 1} (𝓤 : URA M) (H : Heap 𝓤) (A : Atoms 𝓤) (mem : Memory → SProp 𝓤) (run : Routine → Fun 𝓤) where
   -- the contract of the callee
@@ -99,15 +89,17 @@ module _ {M : Type 1} (𝓤 : URA M) (H : Heap 𝓤) (A : Atoms 𝓤) (W : Given
         -- [0 .. 4; lives; tokens; what the parameters own]: the borrow is opened
         move ! (6 ∷ 7 ∷ []) $ split ! $ move ! (1 ∷ []) $ drop ! $ move ! (1 ∷ []) $ fsplit ! $ move ! (1 ∷ []) $ drop ! $
         opens-at ! tt board h b o (λ ih. aside ! $ aside ! $
-        -- [0 .. 4; lives; 6 the board's cell; 7 the open borrow]
+        -- [0 .. 4; lives; 6 the board; 7 the open borrow]
+        -- `let o = step(*b, r)`
         lets ! 4 refl (of-opd ! (behind ! 1 6 refl refl)) (board .lawful 𝓤 H A W .typed h _ ih .0) $
         asks ! fm _ outcome (λ x. x ≡ stepOf h r) (step-gives ih ir) (and-then ! (local-at ! 4 refl) (and-then ! (local-at ! 2 refl) (no-more !))) (λ x e ix.
         lands-at ! 3 refl (outcome .lawful 𝓤 H A W .typed x _ ix .0) $
+        -- `*b = o.board`, and `o.answer`
         stores ! 1 6 refl refl (of-opd ! (field-at ! 3 refl refl refl)) (board .lawful 𝓤 H A W .typed (x .board) _ (board-is x ix) .0) $
         lets ! 0 refl (of-opd ! (field-at ! 3 refl refl refl)) (tt, record { fits = answer-is x ix .1 }) $
         -- the borrow is closed, and the locals are freed
         move ! (6 ∷ 7 ∷ []) $ closes-at ! tt board h (x .board) b o (board-is x ix) $ aside ! $ aside ! $
-        returns ! (look ! 0 refl) $ move ! (5 ∷ []) $ frees1 ! $ frees1 ! $ frees1 ! $ frees1 ! $ frees1 ! $ frees0 ! $ by ! (exits x e ix))))
+        returns ! (look ! 0 refl) $ move ! (5 ∷ []) $ frees4 ! $ frees1 ! $ frees0 ! $ by ! (exits x e ix))))
 
 module _ {M : Type 1} (𝓤 : URA M) (H : Heap 𝓤) (A : Atoms 𝓤) (W : Given 𝓤 H A) (mem : Memory → SProp 𝓤) (run : Routine → Fun 𝓤) (𝓣 : Tables 𝓤 H) (known : Triple 𝓤 (𝓣 .C #step) (Step 𝓤 H A mem run)) where
   walks : Walks 𝓤 H A step-lent.ended stayed (WpFn 𝓤 H (𝓣 .C) (𝓣 .Λ) code.function) (step-lent.clauses 𝓤 H A mem run)

@@ -1,5 +1,5 @@
 -- What the walk of `run` knows of the functions that it calls: that each, handed values that meet its `requires`, gives one that meets its `ensures`.
-use mathlib.Core.Path.{_≡_, refl}
+use mathlib.Core.Path.{_≡_, refl, sym, _∙_}
 use Prim.Native.Nat.{ℕ, _+_, _<_, _^_}
 use mathlib.Core.Bool.{true}
 use mathlib.Core.List.{[], _∷_}
@@ -11,7 +11,7 @@ use prog.Memory.{Memory}
 use prog.Routine.{Routine}
 use prog.Wp.{Heap, Calls}
 use ghost.Atoms.{Atoms}
-use contract.Monad.{Fun, factI}
+use contract.Monad.{Fun, factI, fact-use}
 use types.Kit.{Given}
 use package.sound.WpLaws.{FmC}
 use denote.Laws.{Is}
@@ -20,18 +20,22 @@ use denote.Steps.{only}
 use denote.Triple.Spec.{tripleOf}
 use denote.Triple.Statement.{Contract, Triple}
 use Rattle.rules.specs.Sound.{sound}
+use Rattle.rules.specs.Steps.{soundStep, step}
 use Rattle.rules.specs.declared.Board.{Board}
 use Rattle.rules.specs.declared.StepRecord.{StepRecord}
-use Rattle.steps.specs.Turns.{refusalOf, turnsOf, turnOf, ranOf}
-use Rattle.steps.specs.declared.lent.Running.{Running}
+use Rattle.rules.proofs.SoundLaws.{sound-claims}
+use Rattle.rules.proofs.Accepted.{step-sound}
+use Rattle.steps.specs.Turns.{refusalOf, turnsOf, countedOf, ranOf}
 use Rattle.steps.proofs.Walking.{number, Answer, gives}
-use Rattle.steps.proofs.PlainData.{board, stepRecord, running, ran}
+use Rattle.steps.proofs.PlainData.{board, stepRecord, outcome, ran}
 use Rattle.steps.proofs.lent.run_refusal as run-refusal
 use Rattle.steps.proofs.lent.run_refusal.Symbol.{name as #run-refusal}
 use Rattle.steps.proofs.lent.turns as turns
 use Rattle.steps.proofs.lent.turns.Symbol.{name as #turns}
-use Rattle.steps.proofs.lent.turn as turn
-use Rattle.steps.proofs.lent.turn.Symbol.{name as #turn}
+use Rattle.steps.proofs.sound_step as sound-step
+use Rattle.steps.proofs.sound_step.Symbol.{name as #sound-step}
+use Rattle.steps.proofs.lent.counted as counted
+use Rattle.steps.proofs.lent.counted.Symbol.{name as #counted}
 use Rattle.steps.proofs.lent.ran as ran-fn
 use Rattle.steps.proofs.lent.ran.Symbol.{name as #ran}
 
@@ -42,8 +46,11 @@ module _ {M : Type 1} (𝓤 : URA M) (H : Heap 𝓤) (A : Atoms 𝓤) (mem : Mem
   abbrev pub Turns : Contract 𝓤
   Turns = tripleOf 𝓤 H A turns.signature (turns.spec 𝓤 H A mem go)
 
-  abbrev pub Turn : Contract 𝓤
-  Turn = tripleOf 𝓤 H A turn.signature (turn.spec 𝓤 H A mem go)
+  abbrev pub SoundStep : Contract 𝓤
+  SoundStep = tripleOf 𝓤 H A sound-step.signature (sound-step.spec 𝓤 H A mem go)
+
+  abbrev pub Counted : Contract 𝓤
+  Counted = tripleOf 𝓤 H A counted.signature (counted.spec 𝓤 H A mem go)
 
   abbrev pub End : Contract 𝓤
   End = tripleOf 𝓤 H A ran-fn.signature (ran-fn.spec 𝓤 H A mem go)
@@ -52,7 +59,8 @@ module _ {M : Type 1} (𝓤 : URA M) (H : Heap 𝓤) (A : Atoms 𝓤) (mem : Mem
   pub record Known (C : Calls 𝓤 H) : Type 2 where
     pub known-refusal : Triple 𝓤 (C #run-refusal) RunRefusal
     pub known-turns : Triple 𝓤 (C #turns) Turns
-    pub known-turn : Triple 𝓤 (C #turn) Turn
+    pub known-step : Triple 𝓤 (C #sound-step) SoundStep
+    pub known-counted : Triple 𝓤 (C #counted) Counted
     pub known-end : Triple 𝓤 (C #ran) End
 
   module _ (W : Given 𝓤 H A) (C : Calls 𝓤 H) (fm : FmC 𝓤 H (W .laws) C) (K : Known C) where
@@ -67,11 +75,18 @@ module _ {M : Type 1} (𝓤 : URA M) (H : Heap 𝓤) (A : Atoms 𝓤) (mem : Mem
         gives 𝓤 H A turns.ended (turns.clauses 𝓤 H A mem go) W ((tt, tt, tt, (k, (m, tt)), (vint w16 k ∷ [], (vint w64 m ∷ [], tt))), tt) (λ n. n ≡ turnsOf k m) (λ n e. id⊢ 𝓤 _)
         fm (K .known-turns) (id⊢ 𝓤 (emp 𝓤)) (number w16 .makes 𝓤 H A W, (number w64 .makes 𝓤 H A W, tt)) ((refl, fk), ((refl, fm′), tt)) (id⊢ 𝓤 (emp 𝓤))
 
-    pub turn-gives : (t : Running) (r : StepRecord) → Is (running .row) t (running .vals t) → Is (stepRecord .row) r (stepRecord .vals r) → sound (t .board) ≡ true → t .zeros + 1 < 2 ^ 64
-        → ent 𝓤 (emp 𝓤) (C #turn (only (running .vals t) ∷ only (stepRecord .vals r) ∷ []) (Answer 𝓤 H A (running .row) (λ u. u ≡ turnOf t r)))
-    turn-gives t r it ir s f =
-        gives 𝓤 H A turn.ended (turn.clauses 𝓤 H A mem go) W ((tt, tt, tt, (t, (r, tt)), (running .vals t, (stepRecord .vals r, tt))), tt) (λ u. u ≡ turnOf t r) (λ u e. id⊢ 𝓤 _)
-        fm (K .known-turn) (id⊢ 𝓤 (emp 𝓤)) (running .makes 𝓤 H A W, (stepRecord .makes 𝓤 H A W, tt)) (it, (ir, tt)) (factI 𝓤 ((sound (t .board) ≡ true) × (t .zeros + 1 < 2 ^ 64)) (emp 𝓤) (s, f))
+    -- on a sound board the step without its test is the step
+    pub step-gives : (b : Board) (r : StepRecord) → Is (board .row) b (board .vals b) → Is (stepRecord .row) r (stepRecord .vals r) → sound b ≡ true
+        → ent 𝓤 (emp 𝓤) (C #sound-step (only (board .vals b) ∷ only (stepRecord .vals r) ∷ []) (Answer 𝓤 H A (outcome .row) (λ o. o ≡ step b r)))
+    step-gives b r ib ir s =
+        gives 𝓤 H A sound-step.ended (sound-step.clauses 𝓤 H A mem go) W ((tt, tt, tt, (b, (r, tt)), (board .vals b, (stepRecord .vals r, tt))), tt) (λ o. o ≡ step b r)
+        (λ o e. fact-use 𝓤 (o ≡ soundStep b r) (id⊢ 𝓤 _) (λ f. factI 𝓤 (o ≡ step b r) _ (f ∙ sym (step-sound b r (sound-claims b s)))))
+        fm (K .known-step) (id⊢ 𝓤 (emp 𝓤)) (board .makes 𝓤 H A W, (stepRecord .makes 𝓤 H A W, tt)) (ib, (ir, tt)) (factI 𝓤 (sound b ≡ true) (emp 𝓤) s)
+
+    pub counted-gives : (z k : ℕ) → z < 2 ^ 64 → k < 2 ^ 16 → z + 1 < 2 ^ 64 → ent 𝓤 (emp 𝓤) (C #counted (vint w64 z ∷ vint w16 k ∷ []) (Answer 𝓤 H A usize (λ n. n ≡ countedOf z k)))
+    counted-gives z k fz fk fits =
+        gives 𝓤 H A counted.ended (counted.clauses 𝓤 H A mem go) W ((tt, tt, tt, (z, (k, tt)), (vint w64 z ∷ [], (vint w16 k ∷ [], tt))), tt) (λ n. n ≡ countedOf z k) (λ n e. id⊢ 𝓤 _)
+        fm (K .known-counted) (id⊢ 𝓤 (emp 𝓤)) (number w64 .makes 𝓤 H A W, (number w16 .makes 𝓤 H A W, tt)) ((refl, fz), ((refl, fk), tt)) (factI 𝓤 (z + 1 < 2 ^ 64) (emp 𝓤) fits)
 
     pub end-gives : (k z : ℕ) → k < 2 ^ 16 → z < 2 ^ 64 → ent 𝓤 (emp 𝓤) (C #ran (vint w16 k ∷ vint w64 z ∷ []) (Answer 𝓤 H A (ran .row) (λ e. e ≡ ranOf k z)))
     end-gives k z fk fz =
