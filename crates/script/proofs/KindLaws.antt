@@ -1,4 +1,4 @@
--- The kinds 1 to 7, one by one.
+-- The kinds 1 to 7, one by one, and every other number.
 use mathlib.Core.Path.{_≡_, refl, sym, ap, _∙_}
 use mathlib.Core.Bool.{Bool, true, false}
 use mathlib.Core.Logic.{_⊎_, inl, inr}

@@ -1,4 +1,4 @@
--- A step's line, row by row: its word has a number and no tab, its letters are few and small, and its line is short.
+-- The line of a step: its letters are few and small, so it is short; how it is put together, and written at a place of a buffer.
 use mathlib.Core.Path.{_≡_, refl, sym, _∙_}
 use mathlib.Core.Bool.{false}
 use mathlib.Core.List.{List, [], _∷_}
@@ -24,25 +24,19 @@ use Rattle.script.proofs.TabLaws.{Small, tabbed-length}
 abbrev pub Fits16 : StepRecord → Type 0
 Fits16 r = (r .unit ≤ 65535) × (r .other ≤ 65535) × (r .slot ≤ 65535)
 
-pub letters-small : (r : StepRecord) (a : Action) → Fits16 r → Small (lettersOf r a)
-letters-small r Unknown h = tt
-letters-small r Start h = (h .0, tt)
-letters-small r Send h = (h .0, (h .1, (h .2, tt)))
-letters-small r Request h = (h .0, (h .2, tt))
-letters-small r Deliver h = (h .2, tt)
-letters-small r Rest h = (h .0, tt)
-letters-small r Tick h = (h .0, tt)
-letters-small r Release h = (h .0, (h .2, tt))
+-- the rows: a step has at most three letters, and each is small
+letters-rows : (r : StepRecord) (a : Action) → Fits16 r → Small (lettersOf r a) × (length (lettersOf r a) ≤ 3)
+letters-rows r Unknown h = (tt, omega arith)
+letters-rows r Start h = ((h .0, tt), omega arith)
+letters-rows r Send h = ((h .0, (h .1, (h .2, tt))), omega arith)
+letters-rows r Request h = ((h .0, (h .2, tt)), omega arith)
+letters-rows r Deliver h = ((h .2, tt), omega arith)
+letters-rows r Rest h = ((h .0, tt), omega arith)
+letters-rows r Tick h = ((h .0, tt), omega arith)
+letters-rows r Release h = ((h .0, (h .2, tt)), omega arith)
 
-letters-few : (r : StepRecord) (a : Action) → length (lettersOf r a) ≤ 3
-letters-few r Unknown = omega arith
-letters-few r Start = omega arith
-letters-few r Send = omega arith
-letters-few r Request = omega arith
-letters-few r Deliver = omega arith
-letters-few r Rest = omega arith
-letters-few r Tick = omega arith
-letters-few r Release = omega arith
+pub letters-small : (r : StepRecord) (a : Action) → Fits16 r → Small (lettersOf r a)
+letters-small r a h = letters-rows r a h .0
 
 word-short : (k : ℕ) → 1 ≤ k → k ≤ 7 → length (getD words k []) ≤ 7
 word-short = by-kind (λ k. length (getD words k []) ≤ 7) (omega arith) (omega arith) (omega arith) (omega arith) (omega arith) (omega arith) (omega arith)
@@ -51,7 +45,7 @@ pub line-short : (r : StepRecord) → 1 ≤ r .kind → r .kind ≤ 7 → Fits16
 unfolding stepLine
 line-short r l u h =
     let ns : List ℕ = lettersOf r (actionOf (r .kind)) in
-    omega (arith, length-append (getD words (r .kind) []) (tabbed ns), word-short (r .kind) l u, tabbed-length ns (letters-small r (actionOf (r .kind)) h), letters-few r (actionOf (r .kind)))
+    omega (arith, length-append (getD words (r .kind) []) (tabbed ns), word-short (r .kind) l u, tabbed-length ns (letters-small r (actionOf (r .kind)) h), letters-rows r (actionOf (r .kind)) h .1)
 
 -- ---- a step's line put together in a blank buffer: its word, its letters behind it, and byte 10
 module _ (r : StepRecord) (blank : List ℕ) {from : ℕ} {first ns : List ℕ} (n : from ≡ length (getD words (r .kind) [])) (f : first ≡ sets blank 0 (getD words (r .kind) [])) (ls : ns ≡ lettersOf r (actionOf (r .kind))) where

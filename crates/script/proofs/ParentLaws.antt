@@ -30,8 +30,8 @@ says-opens zero vs e = (refl, cc)
 says-opens (suc k) vs e = let z : _≡_ {A = ℕ} 0 1 = cc in absurd (omega arith)
 
 module _ (first : Bool) (l : List ℕ) where
-  numbered : Numbered (lineChecks first l)
-  numbered = ((omega arith, omega arith), ((omega arith, omega arith), ((omega arith, omega arith), ((omega arith, omega arith), ((omega arith, omega arith), tt)))))
+  pub line-numbered : Numbered (lineChecks first l)
+  line-numbered = ((omega arith, omega arith), ((omega arith, omega arith), ((omega arith, omega arith), ((omega arith, omega arith), ((omega arith, omega arith), tt)))))
 
   abbrev said : Reading
   said = readingBy (wordNumber (fieldOf 0 l)) (values (arguments l))
@@ -49,7 +49,7 @@ module _ (first : Bool) (l : List ℕ) where
 
   pub opens-line : {m d n : ℕ} → reading first l ≡ Opens m d n → OpensLine l n
   unfolding reading
-  opens-line {m} {d} {n} e = by-judgement (judged Refused (lineChecks first l) said numbered)
+  opens-line {m} {d} {n} e = by-judgement (judged Refused (lineChecks first l) said line-numbered)
     where
       by-judgement : Judged Refused (lineChecks first l) said → OpensLine l n
       by-judgement (passed c) = opens-by c (sym (judge-passed Refused (lineChecks first l) said c) ∙ e)

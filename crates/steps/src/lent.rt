@@ -88,6 +88,7 @@ pub fn run(b: &mut Board, steps: &[StepRecord], answers: &mut [u16]) -> Ran
     ran(refusal, zeros)
 }
 
+// What a run gives, and the board after it.
 pub struct RanOn {
     pub ran: Ran,
     pub board: Board,
