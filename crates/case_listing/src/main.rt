@@ -1,0 +1,120 @@
+// Whole scripts and their listings: every refusal that a script can meet from its input, and each two neighbours in the order of
+// refusals that can fail together.
+use libc::STDOUT_FILENO;
+use placing::Wrote;
+use placing::put_bytes;
+ghost use Prim.Native.Nat.{_≤_};
+
+fn text(t: &[u8]) {
+    io::write_all(STDOUT_FILENO, t);
+}
+
+fn least(n: usize, room: usize) -> usize
+    ensures { λ r. ⌜ r ≤ room ⌝ }
+{
+    if n < room { n } else { room }
+}
+
+fn written(w: Wrote, out: &[u8]) {
+    match w {
+        Wrote::Count(n) => text(&out[0..least(n, out.len())]),
+        Wrote::Refused(_) => text(b"no room\n"),
+    }
+}
+
+// A title, and the listing of a script under it.
+fn show(title: &[u8], script: &[u8]) {
+    text(b"-- ");
+    text(title);
+    text(b"\n");
+    let mut out = [0u8; 1024];
+    let w = listing::list_all(script, &mut out);
+    written(w, &out);
+}
+
+fn whole_case() {
+    show(
+        b"the whole case",
+        b"board\t2\t1\t0\nstart\t0\nsend\t0\t1\t0\nrest\t0\ndeliver\t0\nrest\t1\nrelease\t1\t1\ntick\t1\nrelease\t1\t1\ndeliver\t1\n",
+    );
+}
+
+fn lines() {
+    show(b"a last line without byte 10", b"board\t1\t0\nstart\t0");
+    show(b"no line", b"");
+    show(b"one empty line", b"\n");
+    show(b"an empty line later", b"board\t1\t0\n\nstart\t0\n");
+    show(b"a carriage return in the first line", b"board\t1\t0\r\n");
+    show(b"a carriage return later", b"board\t1\t0\nstart\t0\r\n");
+    show(b"bytes above 127", b"board\t1\t0\n\xff\xfe\nstart\t\xb0\n");
+}
+
+fn first_lines() {
+    show(b"22", b"bored\t1\t0\n");
+    show(b"25, and 23", b"start\n");
+    show(b"23, and 24", b"board\tx\n");
+    show(b"24, and 11", b"board\t0\tx\n");
+    show(b"11, and 12", b"board\t0\t0\t1\n");
+    show(b"11, M", b"board\t257\t0\n");
+    show(b"11, d", b"board\t1\t256\n");
+    show(b"12", b"board\t1\t0\t1\n");
+    show(
+        b"nothing behind a refused first line",
+        b"board\t1\nstart\t0\n",
+    );
+}
+
+fn later_lines() {
+    show(b"22, and 25", b"bored\nboard\t1\t0\n");
+    show(
+        b"bad lines leave the board as it was",
+        b"board\t1\t0\nstart\t0\nstrat\t0\nboard\t1\t0\nrest\nrest\t\nrest\t0x\nrest\t65536\nrest\t65535\ndeliver\t1\nrest\t000\n",
+    );
+}
+
+// A board line and a line of 255 bytes x, then of 256.
+fn long_lines() {
+    let mut script = [b'x'; 266];
+    put_bytes(b"board\t1\t0\n", &mut script, 0);
+    show(b"a line of 255 bytes", &script[0..265]);
+    show(b"a line of 256 bytes", &script[0..266]);
+}
+
+fn parents() {
+    show(
+        b"63 parents",
+        b"board\t1\t0\t0\t0\t0\t0\t0\t0\t0\t0\t0\t0\t0\t0\t0\t0\t0\t0\t0\t0\t0\t0\t0\t0\t0\t0\t0\t0\t0\t0\t0\t0\t0\t0\t0\t0\t0\t0\t0\t0\t0\t0\t0\t0\t0\t0\t0\t0\t0\t0\t0\t0\t0\t0\t0\t0\t0\t0\t0\t0\t0\t0\t0\t0\t0\n",
+    );
+    show(
+        b"64 parents",
+        b"board\t1\t0\t0\t0\t0\t0\t0\t0\t0\t0\t0\t0\t0\t0\t0\t0\t0\t0\t0\t0\t0\t0\t0\t0\t0\t0\t0\t0\t0\t0\t0\t0\t0\t0\t0\t0\t0\t0\t0\t0\t0\t0\t0\t0\t0\t0\t0\t0\t0\t0\t0\t0\t0\t0\t0\t0\t0\t0\t0\t0\t0\t0\t0\t0\t0\t0\n",
+    );
+}
+
+// A board line and then empty lines.
+fn long_script() -> [u8; 65536] {
+    let mut script = [b'\n'; 65536];
+    put_bytes(b"board\t1\t0\n", &mut script, 0);
+    script
+}
+
+fn long_scripts() {
+    let script = long_script();
+    text(b"-- a script of 65,535 bytes: the length of its listing\n");
+    io::print_decimal(
+        STDOUT_FILENO,
+        listing::listing_length(&script[0..65535]) as u64,
+    );
+    text(b"\n");
+    show(b"a script of 65,536 bytes", &script);
+}
+
+fn main() {
+    whole_case();
+    lines();
+    first_lines();
+    later_lines();
+    long_lines();
+    parents();
+    long_scripts();
+}

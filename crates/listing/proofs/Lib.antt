@@ -1,0 +1,17 @@
+pub mod LineLaws
+pub mod StartLaws
+pub mod PieceLaws
+pub mod LengthLaws
+pub mod ListedLaws
+pub mod BoundLaws
+pub mod GatherLaws
+pub mod RowLaws
+pub mod TurnLaws
+pub mod LoopLaws
+pub mod ParentLaws
+pub mod CaseLaws
+pub mod FrontLaws
+pub mod CallLaws
+pub mod PartLaws
+pub mod BatchLaws
+pub mod WholeLaws

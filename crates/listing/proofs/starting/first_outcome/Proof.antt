@@ -1,0 +1,58 @@
+-- `starting::first_outcome` meets its contract: in each arm the line says what the arm's case is.
+use mathlib.Core.Path.{sym, ap, _∙_}
+use Rattle.script.specs.Lines.{parentsOf}
+use Rattle.listing.specs.Scripts.{firstOutcome}
+use borrow.Author.Needs.{needs}
+use Rattle.listing.proofs.starting.first_outcome.Statement.{statement}
+use Rattle.listing.proofs.starting.first_outcome.Tie as tie
+
+read-line-requires : tie.Need-read-line-requires
+read-line-requires c κs = search needs
+
+enum-known-r : tie.Need-enum-known-r
+enum-known-r c = search needs
+
+opened-requires : tie.Need-opened-requires
+opened-requires c κs = sym (c .before .before .before .read-line .ensures) ∙ c .before .r .given .1
+
+enum-told : tie.Need-enum-told
+enum-told c = search needs
+
+no-opening-requires : tie.Need-no-opening-requires
+no-opening-requires c κs = search needs
+
+enum-known-r-2 : tie.Need-enum-known-r-2
+enum-known-r-2 c = search needs
+
+refused-requires : tie.Need-refused-requires
+refused-requires c κs = search needs
+
+returns : tie.Need-returns
+returns c =
+    let read = c .before .before .before .before in
+    c .opened .ensures ∙ ap (firstOutcome (parentsOf (read .before .before .args .line .now))) (sym (c .before .before .r .given .1) ∙ read .read-line .ensures)
+
+returns-2 : tie.Need-returns-2
+returns-2 c =
+    let read = c .before .before .before in
+    c .no-opening .ensures ∙ ap (firstOutcome (parentsOf (read .before .before .args .line .now))) (sym (c .before .enum-told .given .1) ∙ read .read-line .ensures)
+
+returns-3 : tie.Need-returns-3
+returns-3 c =
+    let read = c .before .before .before .before in
+    c .refused .ensures ∙ ap (firstOutcome (parentsOf (read .before .before .args .line .now))) (sym (c .before .before .r2 .given .1) ∙ read .read-line .ensures)
+
+pub first-outcome-spec : {M : Type 1} → statement M
+first-outcome-spec =
+    tie.close
+    (tie.spec
+    read-line-requires
+    enum-known-r
+    opened-requires
+    enum-told
+    no-opening-requires
+    enum-known-r-2
+    refused-requires
+    returns
+    returns-2
+    returns-3)

@@ -1,0 +1,5 @@
+pub mod Scripts
+pub mod Parts
+pub mod Listed
+pub mod Batches
+pub mod Turns

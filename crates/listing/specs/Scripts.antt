@@ -1,0 +1,53 @@
+-- The listing of a whole script, from its bytes to the listing's bytes.
+use mathlib.Core.Bool.{true, false, cond}
+use mathlib.Core.List.{List, [], _∷_, _++_}
+use Prim.Native.Nat.{ℕ, zero, suc}
+use lib.ListN.{length}
+use lib.Dec.{eqb}
+use Rattle.rules.specs.Facts.{check, atMost, judge}
+use Rattle.rules.specs.Opening.{opening}
+use Rattle.rules.specs.Steps.{step}
+use Rattle.rules.specs.declared.Board.{Board}
+use Rattle.rules.specs.declared.Outcome.{Outcome}
+use Rattle.fields.specs.Fields.{upTo, past}
+use Rattle.script.specs.Lines.{reading, parentsOf}
+use Rattle.script.specs.declared.Reading.{Reading}
+use Rattle.script.specs.declared.Reading.the-variants.{Opens, Asks, Refused}
+use Rattle.texts.specs.Texts.{heading, boardText, refusedText}
+
+-- lines ended by byte 10; a last line may lack it, and after a last byte 10 no further line begins. A line has at least one byte of the script, its own or its byte 10, so the script's length is turns enough
+unfoldable pub linesWithin : ℕ → List ℕ → List (List ℕ)
+linesWithin zero s = []
+linesWithin (suc k) [] = []
+linesWithin (suc k) (c ∷ cs) = upTo 10 (c ∷ cs) ∷ linesWithin k (past 10 (c ∷ cs))
+
+abbrev pub linesOf : List ℕ → List (List ℕ)
+linesOf s = linesWithin (length s) s
+
+-- a later line: a step is taken on the board; a bad line leaves the board as it was. (A board line has been refused by 25)
+abbrev pub lineOutcome : Board → Reading → Outcome
+lineOutcome b (Opens m d n) = record { answer = 25; board = b }
+lineOutcome b (Asks r) = step b r
+lineOutcome b (Refused k) = record { answer = k; board = b }
+
+unfoldable pub laterText : ℕ → Board → List (List ℕ) → List ℕ
+laterText n b [] = []
+laterText n b (l ∷ ls) = boardText n (lineOutcome b (reading false l) .answer) (lineOutcome b (reading false l) .board) ++ laterText (suc n) (lineOutcome b (reading false l) .board) ls
+
+-- the first line opens the board, by its parents ps, or the listing is one refused line. (A step there has been refused by 25)
+abbrev pub firstOutcome : List ℕ → Reading → Outcome
+firstOutcome ps (Opens m d n) = opening m d ps
+firstOutcome ps (Asks r) = opening 0 0 []
+firstOutcome ps (Refused k) = record { answer = k; board = opening 0 0 [] .board }
+
+abbrev pub openedText : Outcome → List (List ℕ) → List ℕ
+openedText o ls = cond (eqb (o .answer) 0) (boardText 0 0 (o .board) ++ laterText 1 (o .board) ls) (refusedText (o .answer))
+
+-- 25 first line missing
+unfoldable pub linesText : List (List ℕ) → List ℕ
+linesText [] = refusedText 25
+linesText (l ∷ ls) = openedText (firstOutcome (parentsOf l) (reading true l)) ls
+
+-- 26 script over 65,535 bytes, before all
+unfoldable pub listing : List ℕ → List ℕ
+listing s = heading ++ judge refusedText (check (atMost (length s) 65535) 26 ∷ []) (linesText (linesOf s))

@@ -1,0 +1,96 @@
+// Script lines gathered as step records, for a batch.
+use fields::end_from;
+use rules::StepRecord;
+use script::Reading;
+use script::read_line;
+ghost use mathlib.Core.Path.{_≡_};
+ghost use Prim.Native.Nat.{suc, _≤_, min};
+ghost use Rattle.listing.specs.Batches.{linesAt, placeAfter, recordOf, refusalOf};
+ghost use Rattle.listing.specs.Turns.{Gathers};
+
+// What ends a line of a script.
+pub(crate) const NEWLINE: u8 = 10;
+
+// At most 64 lines as step records, the numbers that refuse those among them that are no step, and the place behind them.
+pub(crate) struct Gathered {
+    pub(crate) steps: [StepRecord; 64],
+    pub(crate) refusals: [u16; 64],
+    pub(crate) count: usize,
+    pub(crate) at: usize,
+}
+
+// A line that is no step as a record that every board refuses.
+fn record_of(r: Reading) -> StepRecord
+    ensures { λ x. ⌜ x ≡ recordOf r ⌝ }
+{
+    match r {
+        Reading::Opens(_, _, _) => no_step(),
+        Reading::Asks(x) => x,
+        Reading::Refused(_) => no_step(),
+    }
+}
+
+fn no_step() -> StepRecord
+    ensures { λ x. ⌜ x ≡ recordOf (Reading.Refused 0) ⌝ }
+{
+    StepRecord {
+        kind: 0,
+        unit: 0,
+        other: 0,
+        slot: 0,
+    }
+}
+
+// The number that refuses a line, 0 for a step.
+fn refusal_of(r: Reading) -> u16
+    ensures { λ k. ⌜ k ≡ refusalOf r ⌝ }
+{
+    match r {
+        Reading::Opens(_, _, _) => 25,
+        Reading::Asks(_) => 0,
+        Reading::Refused(k) => k,
+    }
+}
+
+// The place behind a line that ends at `end`.
+pub(crate) fn behind(end: usize, length: usize) -> usize
+    ensures { λ r. ⌜ r ≡ min (suc end) length ⌝ }
+{
+    if end < length {
+        return end + 1;
+    }
+    length
+}
+
+// At most `most` lines from a place on.
+pub(crate) fn gather(script: &[u8], from: usize, most: usize) -> Gathered
+    requires { ⌜ most ≤ 64 ⌝ }
+    ensures { λ g. ⌜ Gathers g (linesAt most from (now (script .entry))) (placeAfter most from (now (script .entry))) ⌝ }
+{
+    let mut steps = [no_step(); 64];
+    let mut refusals = [0u16; 64];
+    let mut at = from;
+    let mut i = 0;
+    while i < most {
+        if at >= script.len() {
+            return Gathered {
+                steps,
+                refusals,
+                count: i,
+                at,
+            };
+        }
+        let end = end_from(script, at, NEWLINE);
+        let line = read_line(&script[at..end], false);
+        steps[i] = record_of(line);
+        refusals[i] = refusal_of(line);
+        at = behind(end, script.len());
+        i += 1;
+    }
+    Gathered {
+        steps,
+        refusals,
+        count: i,
+        at,
+    }
+}

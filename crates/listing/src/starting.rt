@@ -1,0 +1,97 @@
+// The first line of a script: the board that it opens, or the number that refuses it.
+use crate::gathering::NEWLINE;
+use crate::gathering::behind;
+use crate::rows::bytes_of;
+use board::open;
+use fields::end_from;
+use rules::Outcome;
+use rules::Verdict;
+use script::Reading;
+use script::read_line;
+use script::read_parents;
+use texts::write_heading;
+use texts::write_line;
+ghost use mathlib.Core.Path.{_≡_};
+ghost use mathlib.Core.Bool.{true};
+ghost use mathlib.Core.List.{[], _++_};
+ghost use Rattle.rules.specs.Opening.{opening};
+ghost use Rattle.script.specs.Lines.{reading, parentsOf};
+ghost use Rattle.script.specs.declared.Reading.the-variants.{Opens};
+ghost use Rattle.placing.specs.Placing.{wrote, written};
+ghost use Rattle.texts.specs.Texts.{heading, lineText};
+ghost use Rattle.listing.specs.Scripts.{firstOutcome};
+ghost use Rattle.listing.specs.Turns.{bytesOf, startOutcome, startPlace};
+
+// An opening of no slot is refused, with a blank board.
+pub(crate) fn no_opening() -> Outcome
+    ensures { λ o. ⌜ o ≡ opening 0 0 [] ⌝ }
+{
+    let none = [0u16; 1];
+    open(0, 0, &none[0..0])
+}
+
+fn refused(answer: u16) -> Outcome
+    ensures { λ o. ⌜ o ≡ record { answer = answer; board = opening 0 0 [] .board } ⌝ }
+{
+    let o = no_opening();
+    let board = o.board;
+    Outcome { answer, board }
+}
+
+// The board that a board line opens.
+fn opened(line: &[u8], m: u16, d: u16, parents: u16) -> Outcome
+    requires { ⌜ reading true (now line) ≡ Opens m d parents ⌝ }
+    ensures { λ o. ⌜ o ≡ opening m d (parentsOf (now (line .entry))) ⌝ }
+{
+    let list = read_parents(line);
+    let count = parents as usize;
+    open(m, d, &list[0..count])
+}
+
+fn first_outcome(line: &[u8]) -> Outcome
+    ensures { λ o. ⌜ o ≡ firstOutcome (parentsOf (now (line .entry))) (reading true (now (line .entry))) ⌝ }
+{
+    let r = read_line(line, true);
+    match r {
+        Reading::Opens(m, d, parents) => opened(line, m, d, parents),
+        Reading::Asks(_) => no_opening(),
+        Reading::Refused(k) => refused(k),
+    }
+}
+
+// The script's length is judged before its first line is looked for.
+pub(crate) fn start_outcome(script: &[u8]) -> Outcome
+    ensures { λ o. ⌜ o ≡ startOutcome (now (script .entry)) ⌝ }
+{
+    if script.len() > 65535 {
+        return refused(26);
+    }
+    if script.len() < 1 {
+        return refused(25);
+    }
+    let end = end_from(script, 0, NEWLINE);
+    first_outcome(&script[0..end])
+}
+
+// Where the first piece leaves off, by its answer.
+pub(crate) fn start_place(answer: u16, script: &[u8]) -> usize
+    ensures { λ r. ⌜ r ≡ startPlace (now (script .entry)) answer ⌝ }
+{
+    let end = end_from(script, 0, NEWLINE);
+    if answer == 0 {
+        return behind(end, script.len());
+    }
+    script.len()
+}
+
+// The heading and the first line, or nothing. The line is written first: where it fits behind the heading, the heading fits too.
+pub(crate) fn write_first(answer: u16, debt: u64, state: Verdict, out: &mut [u8]) -> usize
+    ensures { λ n. ⌜ (n ≡ bytesOf (wrote (heading ++ lineText 0 answer debt state) 0 (now (out .entry)))) × (now (out .exit) ≡ written (heading ++ lineText 0 answer debt state) 0 (now (out .entry))) ⌝ }
+{
+    let n = bytes_of(write_line(0, answer as u64, debt, state, out, 23));
+    if n == 0 {
+        return 0;
+    }
+    write_heading(out, 0);
+    23 + n
+}

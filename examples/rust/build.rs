@@ -1,0 +1,7 @@
+//! Links the library, which `rt staticlib ayokwelifu` writes.
+
+fn main() {
+    let library = format!("{}/../../target/staticlib", std::env::var("CARGO_MANIFEST_DIR").unwrap());
+    println!("cargo:rustc-link-search=native={library}");
+    println!("cargo:rustc-link-lib=static=ayokwelifu");
+}

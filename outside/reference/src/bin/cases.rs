@@ -1,0 +1,327 @@
+//! Prints what the calls answer on boards that no script reaches, one line a
+//! board, so that another program can print the same tables and be compared.
+//!
+//! `cases [table]`, where the table is `damaged` (the default), `balanced`,
+//! `suspended` or `limits`. Lines end with byte 10, columns are decimal
+//! numbers parted by one tab, there is no heading. The first column is the
+//! index of the board, from 0 on in the order below. Ranges written a..=b
+//! include b. Every call gets a copy of the board.
+//!
+//! # damaged, balanced, suspended
+//!
+//! Columns:
+//! 1. index
+//! 2. sound: 1 or 0
+//! 3. finished: 0 finished, 1 working, 30 refused
+//! 4. depth of unit 4, 0 where the call is refused
+//! 5. refusal of that call, 0 where it is not refused
+//! 6. answer of the step of kind 6 (tick), unit 2, other 0, slot 0
+//!
+//! Boards: index 0 is the base board itself. Then, each on a fresh copy of
+//! the base board, one field set:
+//! - for each of n, M, d in this order: to 0, 1, its value minus 1, its value
+//!   plus 1, 65535 (15 boards);
+//! - for each parent entry 0..=63: to 0, 1, its unit, 65535 (256 boards);
+//! - for each of the units 0..=6 and 63: weight plus 1, weight 0, countdown
+//!   1, countdown 3, state idle, state active, state waiting, suspended
+//!   flipped (64 boards);
+//! - for each of the slots 0..=5 and 255: kind empty, work, return, request,
+//!   supply; from 0, 1, 5, 65535; to 0, 1, 5, 65535; weight 0, its value plus
+//!   1, 2^24 (112 boards);
+//! - in `damaged` only: the debt plus 1, minus 1, 0, 2^40, 2^40 + 1, 2^64 - 1
+//!   (6 boards).
+//!
+//! In `balanced` and `suspended` the debt is set after that to the sum of all
+//! 64 unit weights and all 256 slot weights, so that S5 does not hide the
+//! other conditions.
+//!
+//! Base board of `damaged` and `balanced`: opened with M = 4, d = 2, parents
+//! 0, 0, 1, 2, then start 0, send 0 1 0, deliver 0, send 0 2 1, deliver 1,
+//! send 1 3 0, rest 2, send 0 4 2.
+//!
+//! Base board of `suspended`: the same opening, then start 1, send 1 2 0,
+//! deliver 0, ten times (send 2 3 0, deliver 0), send 1 4 1, deliver 1, ten
+//! times (send 4 3 1, deliver 1), request 2 0, request 4 1, deliver 1, rest 3,
+//! tick 3, tick 3, release 3 2, send 1 3 3, deliver 3, rest 3. Unit 2 has a
+//! request under way, unit 4 a supply, slot 2 is a return, unit 3 waits.
+//!
+//! # limits
+//!
+//! Columns:
+//! 1. index
+//! 2. sound: 1 or 0
+//! 3. finished: 0 finished, 1 working, 30 refused
+//! 4. answer of the step of kind 4 (deliver), slot 0, other fields 0
+//! 5. the debt after that step
+//!
+//! Boards: all have n = 3, M = 3, d = 0, parents 0, and are blank but for what
+//! is named. Active units have countdown 0. R(w): unit 1 active of weight w,
+//! unit 2 active of weight 1 and suspended, slot 0 a request from 2 to 0 of
+//! weight 0. W(w, x): unit 1 active of weight w, slot 0 work from 1 to 2 of
+//! weight x. "Supply to 2" is from 0 to 2 with weight 2^24.
+//! - 0: R(2^40 - 2^24 - 1), debt 2^40 - 2^24
+//! - 1: R(2^40 - 2^24), debt 2^40 - 2^24 + 1
+//! - 2: R(2^40 - 1), debt 2^40
+//! - 3: R(2^40), debt 2^40 + 1
+//! - 4: R(2^64 - 1), debt 0
+//! - 5: R(2^64 - 1), debt 2^64 - 1
+//! - 6: W(2^63, 2^63), debt 0
+//! - 7: W(2^63, 2^63 + 2^24), debt 2^24
+//! - 8: W(2^40 - 1, 1), debt 2^40
+//! - 9: W(2^40, 1), debt 2^40 + 1
+//! - 10: W(1, 1), debt 2
+//! - 11: R(1) and slot 1 a request from 2 to 0, debt 2
+//! - 12: R(1) and slot 1 a supply to 2, debt 2 + 2^24
+//! - 13: R(1) with slot 0 a supply to 2 instead, debt 2 + 2^24
+//! - 14: as 13, and slot 1 a supply to 2 too, debt 2 + 2^25
+//! - 15: R(1) with unit 1 suspended too and slot 1 a request from 1 to 0,
+//!   debt 2
+//! - 16: R(1) with the request in slot 0 from 1 instead, debt 2
+//! - 17: R(1) with slot 0 empty, debt 2
+
+use reference::refusal::UNSOUND;
+use reference::{Board, Kind, Slot, State, Step, Unit, DEBT_LIMIT, FULL_WEIGHT};
+use std::io::{self, Write};
+use std::process::ExitCode;
+
+fn main() -> ExitCode {
+    let table = std::env::args().nth(1).unwrap_or("damaged".to_string());
+    let lines = match table.as_str() {
+        "damaged" => damaged(&working_base(), false),
+        "balanced" => damaged(&working_base(), true),
+        "suspended" => damaged(&suspended_base(), true),
+        "limits" => limits(),
+        _ => {
+            eprintln!("usage: cases [damaged | balanced | suspended | limits]");
+            return ExitCode::FAILURE;
+        }
+    };
+    match io::stdout().lock().write_all(lines.as_bytes()) {
+        Ok(()) => ExitCode::SUCCESS,
+        Err(_) => ExitCode::FAILURE,
+    }
+}
+
+fn opened(steps: impl IntoIterator<Item = Step>) -> Board {
+    let (mut board, answer) = Board::open(4, 2, &[0, 0, 1, 2]);
+    assert_eq!(answer, 0);
+    for step in steps {
+        assert_eq!(board.step_checked(step), 0, "{step:?}");
+    }
+    assert!(board.is_sound());
+    board
+}
+
+fn working_base() -> Board {
+    opened([
+        Step::start(0),
+        Step::send(0, 1, 0),
+        Step::deliver(0),
+        Step::send(0, 2, 1),
+        Step::deliver(1),
+        Step::send(1, 3, 0),
+        Step::rest(2),
+        Step::send(0, 4, 2),
+    ])
+}
+
+fn suspended_base() -> Board {
+    let mut steps = vec![Step::start(1)];
+    for (unit, slot) in [(2, 0), (4, 1)] {
+        steps.extend([Step::send(1, unit, slot), Step::deliver(slot)]);
+        for _ in 0..10 {
+            steps.extend([Step::send(unit, 3, slot), Step::deliver(slot)]);
+        }
+    }
+    steps.extend([
+        Step::request(2, 0),
+        Step::request(4, 1),
+        Step::deliver(1),
+        Step::rest(3),
+        Step::tick(3),
+        Step::tick(3),
+        Step::release(3, 2),
+        Step::send(1, 3, 3),
+        Step::deliver(3),
+        Step::rest(3),
+    ]);
+    opened(steps)
+}
+
+fn finished(board: &Board) -> u16 {
+    match board.finished() {
+        Ok(true) => 0,
+        Ok(false) => 1,
+        Err(refusal) => refusal,
+    }
+}
+
+/// The tables of one damage a board.
+fn damaged(base: &Board, balanced: bool) -> String {
+    let mut lines = String::new();
+    for (index, mut board) in damages(base, !balanced).into_iter().enumerate() {
+        if balanced {
+            board.debt = u64::try_from(board.weight()).expect("damages keep weights small");
+        }
+        let sound = u16::from(board.is_sound());
+        let finished = finished(&board);
+        let (depth, refusal) = match board.depth(4) {
+            Ok(depth) => (depth, 0),
+            Err(refusal) => (0, refusal),
+        };
+        let before = board.clone();
+        let answer = board.step_checked(Step::tick(2));
+        assert!(answer != UNSOUND || board == before);
+        lines += &format!("{index}\t{sound}\t{finished}\t{depth}\t{refusal}\t{answer}\n");
+    }
+    lines
+}
+
+fn damages(base: &Board, with_debt: bool) -> Vec<Board> {
+    let mut boards = vec![base.clone()];
+    let mut damage = |change: &dyn Fn(&mut Board)| {
+        let mut board = base.clone();
+        change(&mut board);
+        boards.push(board);
+    };
+
+    let sizes: [fn(&mut Board) -> &mut u16; 3] = [|b| &mut b.n, |b| &mut b.m, |b| &mut b.d];
+    for size in sizes {
+        damage(&|b| *size(b) = 0);
+        damage(&|b| *size(b) = 1);
+        damage(&|b| *size(b) -= 1);
+        damage(&|b| *size(b) += 1);
+        damage(&|b| *size(b) = 65_535);
+    }
+    for unit in 0..64 {
+        for parent in [0, 1, unit as u16, 65_535] {
+            damage(&|b| b.parents[unit] = parent);
+        }
+    }
+    for unit in [0, 1, 2, 3, 4, 5, 6, 63] {
+        damage(&|b| b.units[unit].weight += 1);
+        damage(&|b| b.units[unit].weight = 0);
+        damage(&|b| b.units[unit].countdown = 1);
+        damage(&|b| b.units[unit].countdown = 3);
+        for state in [State::Idle, State::Active, State::Waiting] {
+            damage(&|b| b.units[unit].state = state);
+        }
+        damage(&|b| b.units[unit].suspended ^= true);
+    }
+    for slot in [0, 1, 2, 3, 4, 5, 255] {
+        for kind in [
+            Kind::Empty,
+            Kind::Work,
+            Kind::Return,
+            Kind::Request,
+            Kind::Supply,
+        ] {
+            damage(&|b| b.slots[slot].kind = kind);
+        }
+        for from in [0, 1, 5, 65_535] {
+            damage(&|b| b.slots[slot].from = from);
+        }
+        for to in [0, 1, 5, 65_535] {
+            damage(&|b| b.slots[slot].to = to);
+        }
+        damage(&|b| b.slots[slot].weight = 0);
+        damage(&|b| b.slots[slot].weight += 1);
+        damage(&|b| b.slots[slot].weight = FULL_WEIGHT);
+    }
+    if with_debt {
+        damage(&|b| b.debt += 1);
+        damage(&|b| b.debt -= 1);
+        for debt in [0, DEBT_LIMIT, DEBT_LIMIT + 1, u64::MAX] {
+            damage(&|b| b.debt = debt);
+        }
+    }
+    boards
+}
+
+fn limits() -> String {
+    let request = |from| Slot {
+        kind: Kind::Request,
+        from,
+        to: 0,
+        weight: 0,
+    };
+    let supply = Slot {
+        kind: Kind::Supply,
+        from: 0,
+        to: 2,
+        weight: FULL_WEIGHT,
+    };
+    let active = |weight| Unit {
+        state: State::Active,
+        weight,
+        countdown: 0,
+        suspended: false,
+    };
+    let small = |weight, debt| {
+        let mut board = Board {
+            n: 3,
+            m: 3,
+            debt,
+            ..Board::BLANK
+        };
+        board.units[1] = active(weight);
+        board
+    };
+    let r = |weight, debt| {
+        let mut board = small(weight, debt);
+        board.units[2] = active(1);
+        board.units[2].suspended = true;
+        board.slots[0] = request(2);
+        board
+    };
+    let w = |weight, under_way, debt| {
+        let mut board = small(weight, debt);
+        board.slots[0] = Slot {
+            kind: Kind::Work,
+            from: 1,
+            to: 2,
+            weight: under_way,
+        };
+        board
+    };
+    let changed = |mut board: Board, change: &dyn Fn(&mut Board)| {
+        change(&mut board);
+        board
+    };
+
+    let boards = [
+        r(DEBT_LIMIT - FULL_WEIGHT - 1, DEBT_LIMIT - FULL_WEIGHT),
+        r(DEBT_LIMIT - FULL_WEIGHT, DEBT_LIMIT - FULL_WEIGHT + 1),
+        r(DEBT_LIMIT - 1, DEBT_LIMIT),
+        r(DEBT_LIMIT, DEBT_LIMIT + 1),
+        r(u64::MAX, 0),
+        r(u64::MAX, u64::MAX),
+        w(1 << 63, 1 << 63, 0),
+        w(1 << 63, (1 << 63) + FULL_WEIGHT, FULL_WEIGHT),
+        w(DEBT_LIMIT - 1, 1, DEBT_LIMIT),
+        w(DEBT_LIMIT, 1, DEBT_LIMIT + 1),
+        w(1, 1, 2),
+        changed(r(1, 2), &|b| b.slots[1] = request(2)),
+        changed(r(1, 2 + FULL_WEIGHT), &|b| b.slots[1] = supply),
+        changed(r(1, 2 + FULL_WEIGHT), &|b| b.slots[0] = supply),
+        changed(r(1, 2 + 2 * FULL_WEIGHT), &|b| {
+            b.slots[0] = supply;
+            b.slots[1] = supply;
+        }),
+        changed(r(1, 2), &|b| {
+            b.units[1].suspended = true;
+            b.slots[1] = request(1);
+        }),
+        changed(r(1, 2), &|b| b.slots[0] = request(1)),
+        changed(r(1, 2), &|b| b.slots[0] = Slot::BLANK),
+    ];
+    let mut lines = String::new();
+    for (index, mut board) in boards.into_iter().enumerate() {
+        let sound = u16::from(board.is_sound());
+        let finished = finished(&board);
+        let answer = board.step_checked(Step::deliver(0));
+        let debt = board.debt;
+        lines += &format!("{index}\t{sound}\t{finished}\t{answer}\t{debt}\n");
+    }
+    lines
+}

@@ -1,0 +1,26 @@
+//! The weight board after document 01, written plainly so that another
+//! implementation can be compared with it.
+//!
+//! * [`Board`]: opening, soundness, depth, finished, the seven steps, a run.
+//! * [`read_line`], [`field`], [`read_number`], [`write_step`]: the script.
+//! * [`list`]: the listing of a whole script, bytes to bytes.
+//!
+//! Every refusal is the number that document 01 gives it, see [`refusal`].
+
+mod board;
+mod listing;
+pub mod refusal;
+mod script;
+mod step;
+
+pub use board::{
+    Board, Kind, Slot, State, Unit, DEBT_LIMIT, DELAY_LIMIT, FULL_WEIGHT, SLOTS, UNITS,
+};
+pub use listing::{
+    list, list_into, listing_length, script_lines, walk, write_heading, write_listing_line,
+    HEADING, SCRIPT_LIMIT,
+};
+pub use script::{
+    field, field_count, read_line, read_number, write_step, Record, LINE_LIMIT, WORDS,
+};
+pub use step::{share, Step};

@@ -1,0 +1,134 @@
+//! Listings of whole scripts.
+
+use reference::refusal::*;
+use reference::*;
+
+fn listing(script: &[u8]) -> String {
+    String::from_utf8(list(script)).unwrap()
+}
+
+/// The answers of a listing that is not the refused one.
+fn answers(script: &[u8]) -> Vec<u16> {
+    let listing = listing(script);
+    listing
+        .lines()
+        .skip(1)
+        .map(|line| {
+            assert!(!line.ends_with("refused"), "{line}");
+            line.split('\t').nth(1).unwrap().parse().unwrap()
+        })
+        .collect()
+}
+
+fn refused(script: &[u8], refusal: u16) {
+    let expected = format!("step\tanswer\tdebt\tstate\n0\t{refusal}\t0\trefused\n");
+    assert_eq!(listing(script), expected);
+}
+
+#[test]
+fn whole_case() {
+    let script = "board|2|1|0\nstart|0\nsend|0|1|0\nrest|0\ndeliver|0\nrest|1\n\
+        release|1|1\ntick|1\nrelease|1|1\ndeliver|1\n"
+        .replace('|', "\t");
+    let expected = "step|answer|debt|state\n\
+        0|0|0|finished\n\
+        1|0|16777216|working\n\
+        2|0|16777216|working\n\
+        3|0|1024|working\n\
+        4|0|1024|working\n\
+        5|0|1024|working\n\
+        6|40|1024|working\n\
+        7|0|1024|working\n\
+        8|0|1024|working\n\
+        9|0|0|finished\n"
+        .replace('|', "\t");
+    assert_eq!(listing(script.as_bytes()), expected);
+    assert_eq!(listing(script.trim_end().as_bytes()), expected);
+    walk(script.as_bytes(), |number, _, _, board| {
+        assert!(board.is_sound());
+        assert_eq!(board.finished(), Ok(number == 0 || number == 9));
+    })
+    .unwrap();
+}
+
+#[test]
+fn first_line() {
+    refused(b"", BOARD_MISPLACED);
+    refused(b"\n", UNKNOWN_WORD);
+    refused(b"\nboard\t1\t0\n", UNKNOWN_WORD);
+    refused(b"start\t0\nboard\t1\t0\n", BOARD_MISPLACED);
+    refused(b"board\t1\nstart\t0\n", FIELD_COUNT);
+    refused(b"board\t1\t0\r\nstart\t0\r\n", NOT_A_NUMBER);
+    refused(b"board\t0\t0\nstart\t0\n", OUT_OF_RANGE);
+    refused(b"board\t257\t0", OUT_OF_RANGE);
+    refused(b"board\t1\t256", OUT_OF_RANGE);
+    refused(b"board\t1\t0\t1", PARENT_NOT_BELOW);
+    refused(b"board\t0\t0\t1", OUT_OF_RANGE);
+    refused(&[b'x'; 256], LINE_TOO_LONG);
+    let mut board = b"board\t1\t0".to_vec();
+    for _ in 0..63 {
+        board.extend_from_slice(b"\t0");
+    }
+    assert_eq!(answers(&board), [0]);
+    for _ in 63..123 {
+        board.extend_from_slice(b"\t0");
+        refused(&board, OUT_OF_RANGE);
+    }
+    board.extend_from_slice(b"\t0");
+    refused(&board, LINE_TOO_LONG);
+}
+
+#[test]
+fn later_lines() {
+    let script =
+        b"board\t1\t0\n\nboard\t1\t0\nstart\t0\nstart\t0\r\nstart\nrest\t65536\nrest\t00\n\n";
+    assert_eq!(answers(script), [0, 22, 25, 0, 24, 23, 24, 0, 22]);
+    // After a last byte 10 no further line begins.
+    assert_eq!(answers(b"board\t1\t0\n"), [0]);
+    assert_eq!(answers(b"board\t1\t0\n\n"), [0, 22]);
+    assert_eq!(answers(b"board\t1\t0\n\n\n"), [0, 22, 22]);
+    assert_eq!(answers(b"board\t1\t0\nstart\t0"), [0, 0]);
+}
+
+#[test]
+fn script_length() {
+    let mut script = b"board\t1\t0\n".to_vec();
+    script.resize(SCRIPT_LIMIT, b'\n');
+    let lines = answers(&script);
+    assert_eq!(lines.len(), SCRIPT_LIMIT - 9);
+    assert!(lines[1..].iter().all(|&answer| answer == UNKNOWN_WORD));
+    script.push(b'\n');
+    refused(&script, SCRIPT_TOO_LONG);
+    refused(&vec![b'x'; SCRIPT_LIMIT], LINE_TOO_LONG);
+    refused(&vec![b'x'; SCRIPT_LIMIT + 1], SCRIPT_TOO_LONG);
+}
+
+#[test]
+fn into_a_buffer() {
+    let script = b"board\t1\t0\nstart\t0";
+    let listing = list(script);
+    assert_eq!(listing_length(script), listing.len());
+    let mut out = vec![b'.'; listing.len() + 2];
+    assert_eq!(list_into(script, &mut out), Ok(listing.len()));
+    assert_eq!(out[..listing.len()], listing[..]);
+    assert_eq!(out[listing.len()..], *b"..");
+    let mut out = vec![b'.'; listing.len() - 1];
+    assert_eq!(list_into(script, &mut out), Err(NO_ROOM));
+    assert!(out.iter().all(|&byte| byte == b'.'));
+}
+
+#[test]
+fn line_by_line() {
+    let script = b"board\t1\t0\nstart\t0\nrest\t1\nrest\t0\n";
+    let mut out = vec![b'.'; listing_length(script)];
+    let mut at = write_heading(&mut out, 0).unwrap();
+    walk(script, |number, _, answer, board| {
+        at += write_listing_line(number, answer, board.debt, &mut out, at).unwrap();
+    })
+    .unwrap();
+    assert_eq!(out, list(script));
+    assert_eq!(write_listing_line(4, 0, 0, &mut out, at), Err(NO_ROOM));
+    assert_eq!(write_listing_line(4, 0, 0, &mut out, at + 1), Err(NO_ROOM));
+    assert_eq!(write_heading(&mut out, at), Err(NO_ROOM));
+    assert_eq!(out, list(script));
+}

@@ -1,0 +1,445 @@
+//! The seven steps, their refusals in order, and the run.
+
+use reference::refusal::*;
+use reference::*;
+
+fn open(m: u16, d: u16, parents: &[u16]) -> Board {
+    let (board, answer) = Board::open(m, d, parents);
+    assert_eq!(answer, ACCEPTED);
+    board
+}
+
+fn take(board: &mut Board, steps: &[Step]) {
+    for &step in steps {
+        assert_eq!(board.step_checked(step), ACCEPTED, "{step:?}");
+        assert!(board.is_sound());
+    }
+}
+
+fn refuse(board: &Board, step: Step, refusal: u16) {
+    let mut after = board.clone();
+    assert_eq!(after.step_checked(step), refusal, "{step:?}");
+    assert_eq!(after, *board, "a refused step changed the board");
+    assert_eq!(after.step(step), refusal);
+}
+
+/// n = 6, M = 4, d = 1, all under unit 0. Unit 0 idle; 1 rich; 2 of weight 1;
+/// 3 of weight 1 and suspended, its request in slot 0; 4 waiting with
+/// countdown 1; 5 waiting with countdown 0. Slot 1 is work, 2 and 3 empty.
+fn mixed() -> Board {
+    let mut board = open(4, 1, &[0; 5]);
+    take(&mut board, &[Step::start(1)]);
+    for poor in [2, 3] {
+        take(&mut board, &[Step::send(1, poor, 0), Step::deliver(0)]);
+        for _ in 0..10 {
+            take(&mut board, &[Step::send(poor, 1, 0), Step::deliver(0)]);
+        }
+        assert_eq!(board.units[usize::from(poor)].weight, 1);
+    }
+    take(
+        &mut board,
+        &[
+            Step::request(3, 0),
+            Step::send(1, 4, 1),
+            Step::deliver(1),
+            Step::rest(4),
+            Step::send(1, 5, 1),
+            Step::deliver(1),
+            Step::rest(5),
+            Step::tick(5),
+            Step::send(1, 1, 1),
+        ],
+    );
+    board
+}
+
+#[test]
+fn shares() {
+    for (weight, given) in [
+        (2, 1),
+        (3, 1),
+        (2_047, 1_023),
+        (2_048, 1_024),
+        (1 << 24, 1_024),
+        (u64::MAX, 1_024),
+    ] {
+        assert_eq!(share(weight), Ok(given));
+    }
+    assert_eq!(share(1), Err(WEIGHT_ONE));
+}
+
+#[test]
+fn start_refused() {
+    let board = mixed();
+    refuse(&board, Step::start(6), NO_SUCH_UNIT);
+    refuse(&board, Step::start(65_535), NO_SUCH_UNIT);
+    for unit in 0..6 {
+        refuse(&board, Step::start(unit), DEBT_ABOVE_ZERO);
+    }
+    let mut fresh = open(1, 0, &[]);
+    refuse(&fresh, Step::start(1), NO_SUCH_UNIT);
+    take(&mut fresh, &[Step::start(0)]);
+    refuse(&fresh, Step::start(0), DEBT_ABOVE_ZERO);
+}
+
+#[test]
+fn send_refused() {
+    let board = mixed();
+    refuse(&board, Step::send(6, 0, 4), NO_SUCH_UNIT);
+    refuse(&board, Step::send(0, 6, 4), NO_SUCH_UNIT);
+    refuse(&board, Step::send(1, 6, 2), NO_SUCH_UNIT);
+    refuse(&board, Step::send(0, 1, 4), NO_SUCH_SLOT);
+    refuse(&board, Step::send(1, 2, 65_535), NO_SUCH_SLOT);
+    for unit in [0, 4, 5] {
+        refuse(&board, Step::send(unit, 1, 1), NOT_ACTIVE);
+        refuse(&board, Step::send(unit, 1, 2), NOT_ACTIVE);
+    }
+    refuse(&board, Step::send(3, 1, 1), SUSPENDED);
+    refuse(&board, Step::send(3, 1, 2), SUSPENDED);
+    refuse(&board, Step::send(2, 1, 1), SLOT_FILLED);
+    refuse(&board, Step::send(1, 2, 0), SLOT_FILLED);
+    refuse(&board, Step::send(2, 1, 2), WEIGHT_ONE);
+}
+
+#[test]
+fn request_refused() {
+    let mut board = mixed();
+    refuse(&board, Step::request(6, 4), NO_SUCH_UNIT);
+    refuse(&board, Step::request(0, 4), NO_SUCH_SLOT);
+    refuse(&board, Step::request(0, 1), NOT_ACTIVE);
+    refuse(&board, Step::request(4, 2), NOT_ACTIVE);
+    refuse(&board, Step::request(3, 1), SUSPENDED);
+    refuse(&board, Step::request(1, 1), WEIGHT_ABOVE_ONE);
+    refuse(&board, Step::request(1, 2), WEIGHT_ABOVE_ONE);
+    refuse(&board, Step::request(2, 1), SLOT_FILLED);
+    // Work for the suspended unit: 32 still comes before 41.
+    take(&mut board, &[Step::send(1, 3, 2), Step::deliver(2)]);
+    assert_eq!(board.units[3].weight, 1_025);
+    refuse(&board, Step::request(3, 2), SUSPENDED);
+}
+
+#[test]
+fn deliver_refused() {
+    let mut board = mixed();
+    refuse(&board, Step::deliver(4), NO_SUCH_SLOT);
+    refuse(&board, Step::deliver(65_535), NO_SUCH_SLOT);
+    refuse(&board, Step::deliver(2), SLOT_EMPTY);
+    // Room for one grant more, and for one unit of weight less than that.
+    let missing = DEBT_LIMIT - FULL_WEIGHT - board.debt;
+    board.units[1].weight += missing;
+    board.debt += missing;
+    let mut over = board.clone();
+    take(&mut board, &[Step::deliver(0)]);
+    assert_eq!(board.debt, DEBT_LIMIT);
+    over.units[1].weight += 1;
+    over.debt += 1;
+    refuse(&over, Step::deliver(0), GRANT_PAST_LIMIT);
+    // Only grants are bounded.
+    take(&mut over, &[Step::deliver(1)]);
+}
+
+#[test]
+fn rest_refused() {
+    let board = mixed();
+    refuse(&board, Step::rest(6), NO_SUCH_UNIT);
+    for unit in [0, 4, 5] {
+        refuse(&board, Step::rest(unit), NOT_ACTIVE);
+    }
+    refuse(&board, Step::rest(3), SUSPENDED);
+}
+
+#[test]
+fn tick_refused() {
+    let board = mixed();
+    refuse(&board, Step::tick(6), NO_SUCH_UNIT);
+    for unit in 0..4 {
+        refuse(&board, Step::tick(unit), NOT_WAITING);
+    }
+    refuse(&board, Step::tick(5), COUNTDOWN_ZERO);
+}
+
+#[test]
+fn release_refused() {
+    let board = mixed();
+    refuse(&board, Step::release(6, 4), NO_SUCH_UNIT);
+    refuse(&board, Step::release(0, 4), NO_SUCH_SLOT);
+    for unit in 0..4 {
+        refuse(&board, Step::release(unit, 1), NOT_WAITING);
+    }
+    refuse(&board, Step::release(4, 1), COUNTDOWN_ABOVE_ZERO);
+    refuse(&board, Step::release(4, 2), COUNTDOWN_ABOVE_ZERO);
+    refuse(&board, Step::release(5, 1), SLOT_FILLED);
+}
+
+#[test]
+fn no_such_kind() {
+    for kind in [0, 8, 65_535] {
+        let step = Step {
+            kind,
+            ..Step::default()
+        };
+        refuse(&mixed(), step, NO_SUCH_KIND);
+        assert_eq!(Board::BLANK.clone().step_checked(step), UNSOUND);
+    }
+}
+
+#[test]
+fn unsound_before_all() {
+    let mut board = mixed();
+    board.debt += 1;
+    for kind in 0..=8 {
+        let step = Step {
+            kind,
+            unit: 99,
+            other: 99,
+            slot: 999,
+        };
+        let mut after = board.clone();
+        assert_eq!(after.step_checked(step), UNSOUND);
+        assert_eq!(after, board);
+    }
+}
+
+#[test]
+fn unread_fields() {
+    let mut board = mixed();
+    let junk = Step {
+        kind: 0,
+        unit: 65_535,
+        other: 65_535,
+        slot: 65_535,
+    };
+    let steps = [
+        Step {
+            kind: Step::DELIVER,
+            slot: 1,
+            ..junk
+        },
+        Step {
+            kind: Step::TICK,
+            unit: 4,
+            ..junk
+        },
+        Step {
+            kind: Step::RELEASE,
+            unit: 4,
+            slot: 2,
+            ..junk
+        },
+        Step {
+            kind: Step::REQUEST,
+            unit: 2,
+            slot: 3,
+            ..junk
+        },
+        Step {
+            kind: Step::REST,
+            unit: 1,
+            ..junk
+        },
+    ];
+    take(&mut board, &steps);
+    let mut fresh = open(1, 0, &[]);
+    let start = Step {
+        kind: Step::START,
+        unit: 0,
+        ..junk
+    };
+    take(&mut fresh, &[start]);
+}
+
+#[test]
+fn start_and_send() {
+    let mut board = open(2, 3, &[0]);
+    take(&mut board, &[Step::start(1), Step::send(1, 0, 1)]);
+    assert_eq!(board.debt, 1 << 24);
+    assert_eq!(board.units[1].weight, (1 << 24) - 1_024);
+    assert_eq!(board.units[1].state, State::Active);
+    let work = Slot {
+        kind: Kind::Work,
+        from: 1,
+        to: 0,
+        weight: 1_024,
+    };
+    assert_eq!(board.slots[1], work);
+    // A unit may send to itself.
+    take(&mut board, &[Step::send(1, 1, 0), Step::deliver(0)]);
+    assert_eq!(board.units[1].weight, (1 << 24) - 1_024);
+    assert_eq!(board.slots[0], Slot::BLANK);
+}
+
+#[test]
+fn request_grant_and_supply() {
+    let mut board = mixed();
+    let debt = board.debt;
+    let request = Slot {
+        kind: Kind::Request,
+        from: 3,
+        to: 0,
+        weight: 0,
+    };
+    assert_eq!(board.slots[0], request);
+    assert!(board.units[3].suspended);
+    take(&mut board, &[Step::deliver(0)]);
+    let supply = Slot {
+        kind: Kind::Supply,
+        from: 0,
+        to: 3,
+        weight: 1 << 24,
+    };
+    assert_eq!(board.slots[0], supply);
+    assert_eq!(board.debt, debt + (1 << 24));
+    assert!(board.units[3].suspended);
+    refuse(&board, Step::rest(3), SUSPENDED);
+    take(&mut board, &[Step::deliver(0)]);
+    assert_eq!(board.slots[0], Slot::BLANK);
+    assert_eq!(board.debt, debt + (1 << 24));
+    assert_eq!(board.units[3].weight, (1 << 24) + 1);
+    assert!(!board.units[3].suspended);
+}
+
+#[test]
+fn work_wakes_a_waiting_unit_with_its_weight() {
+    let mut board = mixed();
+    assert_eq!(board.units[4].weight, 1_024);
+    take(&mut board, &[Step::send(1, 4, 2), Step::deliver(2)]);
+    let unit = Unit {
+        state: State::Active,
+        weight: 2_048,
+        countdown: 0,
+        suspended: false,
+    };
+    assert_eq!(board.units[4], unit);
+}
+
+#[test]
+fn returns() {
+    // The chain 0, 1, 2, 3 with d = 2.
+    let mut board = open(2, 2, &[0, 1, 2]);
+    take(
+        &mut board,
+        &[
+            Step::start(3),
+            Step::send(3, 2, 0),
+            Step::deliver(0),
+            Step::rest(2),
+            Step::tick(2),
+            Step::rest(3),
+            Step::tick(3),
+            Step::tick(3),
+            Step::release(3, 0),
+        ],
+    );
+    assert_eq!(board.units[3], Unit::BLANK);
+    let back = Slot {
+        kind: Kind::Return,
+        from: 3,
+        to: 2,
+        weight: (1 << 24) - 1_024,
+    };
+    assert_eq!(board.slots[0], back);
+    // Into a waiting unit: the countdown begins anew, the debt stays.
+    take(&mut board, &[Step::deliver(0)]);
+    let waiting = Unit {
+        state: State::Waiting,
+        weight: 1 << 24,
+        countdown: 2,
+        suspended: false,
+    };
+    assert_eq!(board.units[2], waiting);
+    assert_eq!(board.debt, 1 << 24);
+    // Into an idle unit.
+    take(
+        &mut board,
+        &[Step::tick(2), Step::tick(2), Step::release(2, 1)],
+    );
+    take(&mut board, &[Step::deliver(1)]);
+    assert_eq!(board.units[1], waiting);
+    // Into unit 0.
+    take(
+        &mut board,
+        &[Step::tick(1), Step::tick(1), Step::release(1, 0)],
+    );
+    assert_eq!(board.debt, 1 << 24);
+    take(&mut board, &[Step::deliver(0)]);
+    assert_eq!(board.debt, 0);
+    assert_eq!(board, open(2, 2, &[0, 1, 2]));
+}
+
+#[test]
+fn return_into_an_active_unit() {
+    let mut board = open(2, 0, &[0, 1]);
+    take(
+        &mut board,
+        &[
+            Step::start(1),
+            Step::send(1, 2, 0),
+            Step::deliver(0),
+            Step::rest(2),
+            Step::release(2, 0),
+            Step::deliver(0),
+        ],
+    );
+    assert_eq!(board.units[1].state, State::Active);
+    assert_eq!(board.units[1].weight, 1 << 24);
+}
+
+#[test]
+fn no_tick_without_delay() {
+    let mut board = open(1, 0, &[0]);
+    take(&mut board, &[Step::start(1), Step::rest(1)]);
+    refuse(&board, Step::tick(1), COUNTDOWN_ZERO);
+    take(&mut board, &[Step::release(1, 0), Step::deliver(0)]);
+    assert_eq!(board.finished(), Ok(true));
+}
+
+#[test]
+fn one_unit_finishes_on_rest() {
+    let mut board = open(1, 255, &[]);
+    take(&mut board, &[Step::start(0)]);
+    assert_eq!(board.finished(), Ok(false));
+    take(&mut board, &[Step::rest(0)]);
+    assert_eq!(board.finished(), Ok(true));
+    assert_eq!(board, open(1, 255, &[]));
+}
+
+#[test]
+fn many_sends() {
+    let mut board = open(1, 0, &[0]);
+    take(&mut board, &[Step::start(0)]);
+    for _ in 0..16_393 {
+        assert_eq!(board.step(Step::send(0, 1, 0)), ACCEPTED);
+        assert_eq!(board.step(Step::deliver(0)), ACCEPTED);
+    }
+    assert_eq!(board.units[0].weight, 1);
+    refuse(&board, Step::send(0, 1, 0), WEIGHT_ONE);
+}
+
+#[test]
+fn run() {
+    let mut board = open(2, 1, &[0]);
+    let steps = [
+        Step::start(0),
+        Step::start(0),
+        Step::default(),
+        Step::send(0, 1, 0),
+        Step::rest(0),
+        Step::rest(1),
+    ];
+    let mut answers = [99; 8];
+    assert_eq!(board.run(&steps, &mut answers), Ok(3));
+    assert_eq!(answers, [0, 37, 16, 0, 0, 31, 99, 99]);
+    assert_eq!(board.debt, 1_024);
+
+    let before = board.clone();
+    let mut short = [99; 5];
+    assert_eq!(board.run(&steps, &mut short), Err(ANSWERS_TOO_SHORT));
+    assert_eq!((&board, short), (&before, [99; 5]));
+    assert_eq!(board.run(&[], &mut []), Ok(0));
+
+    board.debt = 1;
+    let before = board.clone();
+    assert_eq!(board.run(&steps, &mut short), Err(UNSOUND));
+    assert_eq!(board.run(&[], &mut []), Err(UNSOUND));
+    assert_eq!((&board, short), (&before, [99; 5]));
+}

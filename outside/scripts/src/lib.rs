@@ -1,0 +1,83 @@
+//! Scripts for the weight board, made from a seed, and checks on listings.
+//!
+//! * [`script`]: the script at an index of the sequence that a seed gives.
+//! * [`check_listing`]: what holds of every listing, whoever wrote it.
+//! * [`Statistics`]: what a set of scripts has met, to see that the scripts
+//!   walk the state space and meet every refusal that a script can meet.
+//!
+//! Steps are chosen by simulating with the reference board, so that most are
+//! accepted. Refusal 36 is out of reach: it needs 65,536 grants, and a script
+//! of 65,535 bytes has no room for as many lines.
+
+mod check;
+mod damage;
+mod forms;
+mod random;
+mod reasons;
+mod statistics;
+mod walker;
+
+pub use check::check_listing;
+pub use random::Random;
+pub use statistics::{Statistics, REACHABLE};
+
+use reference::SCRIPT_LIMIT;
+use walker::Walker;
+
+/// The script at `index` of the sequence that `seed` gives. It depends on
+/// nothing else.
+pub fn script(seed: u64, index: u64) -> Vec<u8> {
+    let mut random = Random::new(seed, index);
+    match random.below(1000) {
+        0..=3 => full_size(&mut random),
+        4..=649 => walk(&mut random),
+        650..=709 => forms::script(&mut random),
+        710..=734 => forms::soup(&mut random),
+        _ => {
+            let mut script = walk(&mut random);
+            damage::damage(&mut script, &mut random);
+            script
+        }
+    }
+}
+
+/// A script of lines that mostly are accepted.
+fn walk(random: &mut Random) -> Vec<u8> {
+    let length = match random.below(100) {
+        0..=54 => random.within(20, 400),
+        55..=84 => random.within(400, 1_500),
+        85..=97 => random.within(1_500, 8_000),
+        _ => random.within(8_000, 30_000),
+    };
+    let mut walker = Walker::new(random);
+    walker.walk_to(length);
+    let mut script = walker.into_script();
+    if random.chance(1, 4) {
+        script.pop();
+    }
+    script
+}
+
+/// A script at the limit of length or just over it.
+fn full_size(random: &mut Random) -> Vec<u8> {
+    let length = match random.below(8) {
+        0..=4 => SCRIPT_LIMIT,
+        5..=6 => SCRIPT_LIMIT + 1,
+        _ => SCRIPT_LIMIT + random.within(2, 3_000),
+    };
+    let shape = random.below(12);
+    let mut walker = Walker::new(random);
+    match shape {
+        // The rest are empty lines, as many as a script can have.
+        0 => walker.walk_to(2_000),
+        // The last line is cut off.
+        1..=3 => walker.walk_to(length),
+        _ => {
+            walker.walk_to(length - 1_000);
+            walker.fill_to(length);
+        }
+    }
+    let mut script = walker.into_script();
+    script.resize(length, b'\n');
+    script
+}

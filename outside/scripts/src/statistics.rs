@@ -1,0 +1,470 @@
+//! What a set of scripts has met on the reference board.
+
+use crate::reasons::{line_reasons, step_reasons, LINE_PAIRS, STEP_PAIRS};
+use reference::{
+    read_line, script_lines, walk, Board, Kind, Record, Slot, State, Step, FULL_WEIGHT, WORDS,
+};
+use std::collections::BTreeMap;
+use std::fmt;
+
+/// Every number that a script can meet: as the refusal of its first line or
+/// of the whole script, and as the answer of a later line.
+pub const REACHABLE: ([u16; 8], [u16; 18]) = (
+    [11, 12, 21, 22, 23, 24, 25, 26],
+    [
+        0, 13, 14, 21, 22, 23, 24, 25, 31, 32, 33, 34, 35, 37, 38, 39, 40, 41,
+    ],
+);
+
+/// What an accepted step can bring about, or a board can be seen in.
+const EVENTS: [&str; 36] = [
+    "start of unit 0",
+    "start of another unit",
+    "start after a finish",
+    "send of 1,024 from 2,048 or more",
+    "send of half a weight",
+    "send that leaves weight 1",
+    "send to itself",
+    "send into the last empty slot",
+    "request of unit 0",
+    "request of another unit",
+    "work to an idle unit",
+    "work to an active unit",
+    "work to a suspended unit",
+    "work to a waiting unit, countdown above 0",
+    "work to a waiting unit, countdown 0",
+    "return to unit 0",
+    "return to unit 0 while it is active",
+    "return to another idle unit",
+    "return to another active unit",
+    "return to another suspended unit",
+    "return to a waiting unit, countdown d",
+    "return to a waiting unit, countdown below d",
+    "grant",
+    "supply to unit 0",
+    "supply to another unit",
+    "supply to a unit above weight 1",
+    "rest of unit 0",
+    "rest of another unit",
+    "tick to above 0",
+    "tick to 0",
+    "release with d = 0",
+    "release after ticks",
+    "finish by a rest",
+    "finish by a delivery",
+    "two or more units suspended after a step",
+    "debt of 2^26 or more after a step",
+];
+
+/// Forms that a line or a script can have, counted in whatever stands after
+/// an accepted first line.
+const FORMS: [&str; 9] = [
+    "accepted line of 255 bytes",
+    "line of 255 bytes",
+    "line of 256 bytes",
+    "accepted line with leading zeros",
+    "line with a carriage return at its end",
+    "line with a byte above 127",
+    "line with the number 65535",
+    "line with the number 65536",
+    "script without a last byte 10",
+];
+
+pub struct Statistics {
+    pub scripts: u64,
+    pub bytes: u64,
+    /// Lines after the first of scripts with an accepted first line.
+    pub lines: u64,
+    /// Those of them that are empty. A few scripts are full of them.
+    pub empty_lines: u64,
+    /// By the refusal of the first line or of the script, 0 if accepted.
+    pub openings: [u64; 64],
+    /// Of later lines, by answer, and by word: unknown words last.
+    pub answers: [[u64; 64]; 9],
+    events: [u64; EVENTS.len()],
+    forms: [u64; FORMS.len()],
+    /// By step's kind, answer and a further reason to refuse the step.
+    pairs: BTreeMap<(u16, u16, u16), u64>,
+    /// The same for lines, by whether the line is the first.
+    line_pairs: BTreeMap<(bool, u16, u16), u64>,
+    /// By length: 0, to 100, 400, 1,500, 8,000, 65,534, 65,535, more.
+    lengths: [u64; 8],
+    /// By n, M and d: see `fmt`.
+    sizes: [[u64; 6]; 3],
+    /// Finishes in one script, the most.
+    most_finishes: u64,
+    largest_debt: u64,
+}
+
+impl Default for Statistics {
+    fn default() -> Statistics {
+        Statistics {
+            scripts: 0,
+            bytes: 0,
+            lines: 0,
+            empty_lines: 0,
+            openings: [0; 64],
+            answers: [[0; 64]; 9],
+            events: [0; EVENTS.len()],
+            forms: [0; FORMS.len()],
+            pairs: BTreeMap::new(),
+            line_pairs: BTreeMap::new(),
+            lengths: [0; 8],
+            sizes: [[0; 6]; 3],
+            most_finishes: 0,
+            largest_debt: 0,
+        }
+    }
+}
+
+const LENGTH_BOUNDS: [usize; 7] = [0, 100, 400, 1_500, 8_000, 65_534, 65_535];
+const SIZE_BOUNDS: [[usize; 5]; 3] = [[1, 5, 16, 32, 63], [1, 4, 16, 64, 255], [0, 1, 4, 20, 254]];
+
+fn class(bounds: &[usize], value: usize) -> usize {
+    bounds.iter().filter(|&&bound| bound < value).count()
+}
+
+impl Statistics {
+    /// Counts one more script.
+    pub fn add(&mut self, script: &[u8]) {
+        self.scripts += 1;
+        self.bytes += script.len() as u64;
+        self.lengths[class(&LENGTH_BOUNDS, script.len())] += 1;
+        let mut before = Board::BLANK;
+        let mut finishes = 0;
+        let outcome = walk(script, |number, line, answer, board| {
+            if number == 0 {
+                let sizes = [board.n, board.m, board.d];
+                for (place, size) in sizes.into_iter().enumerate() {
+                    self.sizes[place][class(&SIZE_BOUNDS[place], size.into())] += 1;
+                }
+                before = board.clone();
+                return;
+            }
+            self.lines += 1;
+            self.empty_lines += u64::from(line.is_empty());
+            self.see_form(line, answer);
+            let word = line.split(|&byte| byte == b'\t').next();
+            let word = WORDS.iter().position(|known| Some(*known) == word);
+            self.answers[word.unwrap_or(WORDS.len())][usize::from(answer)] += 1;
+            if let Ok(Record::Step(step)) = read_line(line, false) {
+                if answer == 0 {
+                    self.see(step, &before, board, finishes);
+                } else {
+                    self.see_refused(step, &before, answer);
+                }
+            } else {
+                self.see_refused_line(line, false, answer);
+            }
+            if answer != 0 {
+                return;
+            }
+            if board.debt == 0 {
+                finishes += 1;
+            }
+            self.largest_debt = self.largest_debt.max(board.debt);
+            before = board.clone();
+        });
+        let refusal = outcome.err().unwrap_or(0);
+        match (refusal, script_lines(script).next()) {
+            (0, _) => self.forms[FORMS.len() - 1] += u64::from(!script.ends_with(b"\n")),
+            (26, _) | (_, None) => (),
+            (_, Some(line)) => self.see_refused_line(line, true, refusal),
+        }
+        self.openings[usize::from(refusal)] += 1;
+        self.most_finishes = self.most_finishes.max(finishes);
+    }
+
+    fn see_form(&mut self, line: &[u8], answer: u16) {
+        let fields = || line.split(|&byte| byte == b'\t').skip(1);
+        let has = |number: &[u8]| fields().any(|field| field == number);
+        let zeros = fields().any(|field| field.len() > 1 && field[0] == b'0');
+        let seen = [
+            line.len() == 255 && answer == 0,
+            line.len() == 255,
+            line.len() == 256,
+            zeros && answer == 0,
+            line.last() == Some(&b'\r'),
+            !line.is_ascii(),
+            has(b"65535"),
+            has(b"65536"),
+        ];
+        for (count, seen) in self.forms.iter_mut().zip(seen) {
+            *count += u64::from(seen);
+        }
+    }
+
+    /// Counts what an accepted step did.
+    fn see(&mut self, step: Step, before: &Board, after: &Board, finishes: u64) {
+        let mut met = |event: &str, happened: bool| {
+            let place = EVENTS.iter().position(|known| *known == event);
+            self.events[place.expect(event)] += u64::from(happened);
+        };
+        let unit = before.units[usize::from(step.unit)];
+        let root = step.unit == 0;
+        match step.kind {
+            Step::START => {
+                met("start of unit 0", root);
+                met("start of another unit", !root);
+                met("start after a finish", finishes > 0);
+            }
+            Step::SEND => {
+                let left = after.units[usize::from(step.unit)].weight;
+                let in_use = &after.slots[..usize::from(after.m)];
+                met("send of 1,024 from 2,048 or more", unit.weight >= 2048);
+                met("send of half a weight", unit.weight < 2048);
+                met("send that leaves weight 1", left == 1);
+                met("send to itself", step.unit == step.other);
+                met(
+                    "send into the last empty slot",
+                    in_use.iter().all(|slot| slot.kind != Kind::Empty),
+                );
+            }
+            Step::REQUEST => {
+                met("request of unit 0", root);
+                met("request of another unit", !root);
+            }
+            Step::DELIVER => {
+                let message: Slot = before.slots[usize::from(step.slot)];
+                let to = before.units[usize::from(message.to)];
+                let to_root = message.to == 0;
+                let active = to.state == State::Active && !to.suspended;
+                let waiting = to.state == State::Waiting;
+                let idle = to.state == State::Idle;
+                match message.kind {
+                    Kind::Work => {
+                        met("work to an idle unit", idle);
+                        met("work to an active unit", active);
+                        met("work to a suspended unit", to.suspended);
+                        met(
+                            "work to a waiting unit, countdown above 0",
+                            waiting && to.countdown > 0,
+                        );
+                        met(
+                            "work to a waiting unit, countdown 0",
+                            waiting && to.countdown == 0,
+                        );
+                    }
+                    Kind::Return if to_root => {
+                        met("return to unit 0", true);
+                        met("return to unit 0 while it is active", !idle);
+                    }
+                    Kind::Return => {
+                        met("return to another idle unit", idle);
+                        met("return to another active unit", active);
+                        met("return to another suspended unit", to.suspended);
+                        met(
+                            "return to a waiting unit, countdown d",
+                            waiting && to.countdown == before.d,
+                        );
+                        met(
+                            "return to a waiting unit, countdown below d",
+                            waiting && to.countdown < before.d,
+                        );
+                    }
+                    Kind::Request => met("grant", true),
+                    Kind::Supply => {
+                        met("supply to unit 0", to_root);
+                        met("supply to another unit", !to_root);
+                        met("supply to a unit above weight 1", to.weight > 1);
+                    }
+                    Kind::Empty => unreachable!("an empty slot is not delivered"),
+                }
+                met("finish by a delivery", after.debt == 0);
+            }
+            Step::REST => {
+                met("rest of unit 0", root);
+                met("rest of another unit", !root);
+                met("finish by a rest", after.debt == 0);
+            }
+            Step::TICK => {
+                met("tick to above 0", unit.countdown > 1);
+                met("tick to 0", unit.countdown == 1);
+            }
+            _ => {
+                met("release with d = 0", before.d == 0);
+                met("release after ticks", before.d > 0);
+            }
+        }
+        let suspended = after.units.iter().filter(|unit| unit.suspended).count();
+        met("two or more units suspended after a step", suspended > 1);
+        met(
+            "debt of 2^26 or more after a step",
+            after.debt >= 4 * FULL_WEIGHT,
+        );
+    }
+
+    /// Counts what else would have refused a refused step.
+    fn see_refused(&mut self, step: Step, board: &Board, answer: u16) {
+        let reasons = step_reasons(board, step);
+        assert!(reasons.contains(&answer), "{step:?} answered {answer}");
+        for also in reasons {
+            if also != answer {
+                *self.pairs.entry((step.kind, answer, also)).or_default() += 1;
+            }
+        }
+    }
+
+    /// Counts what else would have refused a refused line.
+    fn see_refused_line(&mut self, line: &[u8], first: bool, answer: u16) {
+        let reasons = line_reasons(line, first);
+        assert!(reasons.contains(&answer), "{line:?} answered {answer}");
+        for also in reasons {
+            if also != answer {
+                *self.line_pairs.entry((first, answer, also)).or_default() += 1;
+            }
+        }
+    }
+
+    /// How often an answer was given to later lines.
+    pub fn answered(&self, answer: u16) -> u64 {
+        self.answers
+            .iter()
+            .map(|row| row[usize::from(answer)])
+            .sum()
+    }
+
+    /// The accepted lines of a hundred later lines that are not empty.
+    pub fn accepted_share(&self) -> f64 {
+        let whole = self.lines - self.empty_lines;
+        100.0 * self.answered(0) as f64 / whole.max(1) as f64
+    }
+
+    /// What a script can meet and these did not.
+    pub fn missing(&self) -> Vec<String> {
+        let mut missing = vec![];
+        for number in REACHABLE.0 {
+            if self.openings[usize::from(number)] == 0 {
+                missing.push(format!("refusal {number} of a first line or script"));
+            }
+        }
+        for number in REACHABLE.1 {
+            if self.answered(number) == 0 {
+                missing.push(format!("answer {number}"));
+            }
+        }
+        let events = EVENTS.iter().zip(&self.events);
+        for (name, &count) in events.chain(FORMS.iter().zip(&self.forms)) {
+            if count == 0 {
+                missing.push(name.to_string());
+            }
+        }
+        for pair in STEP_PAIRS {
+            if !self.pairs.contains_key(&pair) {
+                let (kind, answer, also) = pair;
+                let word = String::from_utf8_lossy(WORDS[usize::from(kind)]);
+                missing.push(format!("{word}: {answer} before {also}"));
+            }
+        }
+        for pair in LINE_PAIRS {
+            if !self.line_pairs.contains_key(&pair) {
+                let (first, answer, also) = pair;
+                let place = if first { "first" } else { "later" };
+                missing.push(format!("{place} line: {answer} before {also}"));
+            }
+        }
+        for (word, row) in WORDS.iter().zip(&self.answers).skip(1) {
+            if row[0] == 0 {
+                missing.push(format!("accepted {}", String::from_utf8_lossy(word)));
+            }
+        }
+        missing
+    }
+}
+
+impl fmt::Display for Statistics {
+    fn fmt(&self, f: &mut fmt::Formatter) -> fmt::Result {
+        let share = |part: u64, whole: u64| 100.0 * part as f64 / whole.max(1) as f64;
+        let (scripts, bytes, lines) = (self.scripts, self.bytes, self.lines);
+        writeln!(f, "{scripts} scripts, {bytes} bytes")?;
+        writeln!(f, "lengths of scripts:")?;
+        let names = [
+            "0",
+            "1-100",
+            "101-400",
+            "401-1500",
+            "1501-8000",
+            "8001-65534",
+            "65535",
+            "above",
+        ];
+        for (name, count) in names.iter().zip(self.lengths) {
+            writeln!(
+                f,
+                "  {name:<12}{count:>10}  {:6.2} %",
+                share(count, scripts)
+            )?;
+        }
+        writeln!(
+            f,
+            "first line, or the whole script, by refusal (0: accepted):"
+        )?;
+        for (number, &count) in self.openings.iter().enumerate() {
+            if count > 0 {
+                writeln!(
+                    f,
+                    "  {number:<12}{count:>10}  {:6.2} %",
+                    share(count, scripts)
+                )?;
+            }
+        }
+        let size_names = [
+            ("n", ["1", "2-5", "6-16", "17-32", "33-63", "64"]),
+            ("M", ["1", "2-4", "5-16", "17-64", "65-255", "256"]),
+            ("d", ["0", "1", "2-4", "5-20", "21-254", "255"]),
+        ];
+        writeln!(f, "accepted boards:")?;
+        for ((size, names), counts) in size_names.iter().zip(self.sizes) {
+            write!(f, "  {size}:")?;
+            for (name, count) in names.iter().zip(counts) {
+                write!(f, "  {name}: {count}")?;
+            }
+            writeln!(f)?;
+        }
+
+        let accepted = self.accepted_share();
+        let empty = self.empty_lines;
+        writeln!(f, "{lines} later lines, {empty} of them empty")?;
+        writeln!(f, "accepted of those that are not empty: {accepted:.2} %")?;
+        write!(f, "  answer")?;
+        for word in WORDS {
+            write!(f, "{:>10}", String::from_utf8_lossy(word))?;
+        }
+        writeln!(f, "{:>10}{:>11}", "no word", "all")?;
+        for number in 0..64 {
+            let all = self.answered(number);
+            if all > 0 {
+                write!(f, "  {number:>6}")?;
+                for row in &self.answers {
+                    write!(f, "{:>10}", row[usize::from(number)])?;
+                }
+                writeln!(f, "{all:>11}")?;
+            }
+        }
+        writeln!(f, "accepted steps, by what they did:")?;
+        for (event, count) in EVENTS.iter().zip(self.events) {
+            writeln!(f, "  {event:<46}{count:>10}")?;
+        }
+        writeln!(f, "forms:")?;
+        for (form, count) in FORMS.iter().zip(self.forms) {
+            writeln!(f, "  {form:<46}{count:>10}")?;
+        }
+        writeln!(f, "refused steps with a further reason to refuse them:")?;
+        for (&(kind, answer, also), count) in &self.pairs {
+            let word = String::from_utf8_lossy(WORDS[usize::from(kind)]);
+            writeln!(f, "  {word:<10}{answer} before {also}{count:>10}")?;
+        }
+        writeln!(f, "refused lines with a further reason to refuse them:")?;
+        for (&(first, answer, also), count) in &self.line_pairs {
+            let place = if first { "first" } else { "later" };
+            writeln!(f, "  {place:<10}{answer} before {also}{count:>10}")?;
+        }
+        writeln!(f, "most finishes in one script: {}", self.most_finishes)?;
+        writeln!(f, "largest debt: {}", self.largest_debt)?;
+        writeln!(f, "never met, as it needs 65,536 grants: 36")?;
+        match self.missing()[..] {
+            [] => writeln!(f, "everything else that a script can meet was met"),
+            ref missing => writeln!(f, "MISSING: {}", missing.join("; ")),
+        }
+    }
+}
