@@ -70,7 +70,7 @@ impl Slot {
 pub struct Board {
     /// Units in use.
     pub n: u16,
-    /// Slots in use, M in document 01.
+    /// Slots in use, M in the scope document.
     pub m: u16,
     /// The delay.
     pub d: u16,

@@ -1,11 +1,11 @@
-//! The weight board after document 01, written plainly so that another
+//! The weight board after the scope document, written plainly so that another
 //! implementation can be compared with it.
 //!
 //! * [`Board`]: opening, soundness, depth, finished, the seven steps, a run.
 //! * [`read_line`], [`field`], [`read_number`], [`write_step`]: the script.
 //! * [`list`]: the listing of a whole script, bytes to bytes.
 //!
-//! Every refusal is the number that document 01 gives it, see [`refusal`].
+//! Every refusal is the number that the scope document gives it, see [`refusal`].
 
 mod board;
 mod listing;

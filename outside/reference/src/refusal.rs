@@ -1,4 +1,4 @@
-//! The refusal numbers of document 01. 0 is no refusal.
+//! The refusal numbers of the scope document. 0 is no refusal.
 
 pub type Refusal = u16;
 

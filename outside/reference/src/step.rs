@@ -117,7 +117,7 @@ impl Board {
         Ok(accepted)
     }
 
-    // Each step makes all its checks, in the order of document 01, before it
+    // Each step makes all its checks, in the order of the scope document, before it
     // changes anything: a refused step leaves the board as it was.
 
     /// [13, 37]
