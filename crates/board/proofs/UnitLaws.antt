@@ -22,21 +22,21 @@ use Rattle.board.proofs.SlotLaws.{sum-next, sum-end}
 abbrev pub unitFacts : Board → ℕ → ℕ → ℕ → List Fact
 unitFacts b left count i =
     atMost (unitAt b i .weight) left
-    ∷ holds (tests (parentRow b i (parentAt b i)))
+    ∷ holds (tests (parentRow (b .n) i (parentAt b i)))
     ∷ equal count (oneIf (unitAt b i .suspended))
-    ∷ holds (tests (unitRow b i (unitAt b i)))
+    ∷ holds (tests (unitRow (b .n) (b .delay) i (unitAt b i)))
     ∷ []
 
 -- what is asked of unit i and its parent, without the weight
 pub record UnitFits (b : Board) (i : ℕ) : Type 0 where
-  pub parent : Claims (parentRow b i (parentAt b i))
+  pub parent : Claims (parentRow (b .n) i (parentAt b i))
   pub pends : Claims (pendingRow b i (unitAt b i))
-  pub own : Claims (unitRow b i (unitAt b i))
+  pub own : Claims (unitRow (b .n) (b .delay) i (unitAt b i))
 
 -- ---- once i units are passed, after all slots
 pub record UnitsSeen (b : Board) (counts : List ℕ) (left i : ℕ) : Type 0 where
   pub ranges : Claims (atMost (b .debt) ceiling ∷ sizes b)
-  pub slots-fit : Each (slotRow b) (b .slots)
+  pub slots-fit : Each (slotRow (b .n) (b .m) (b .parents)) (b .slots)
   pub counted : (k : ℕ) → k < 64 → getD counts k 0 ≡ pending (b .slots) k
   pub within : i ≤ 64
   pub seen : (k : ℕ) → k < i → UnitFits b k
@@ -60,9 +60,9 @@ module _ (b : Board) (counts : List ℕ) (left i : ℕ) (h : UnitsSeen b counts 
   pub one-more : i < 64 → Claims (unitFacts b left (getD counts i 0) i) → UnitsSeen b counts (left - unitAt b i .weight) (i + 1)
   one-more l fits =
       let here : UnitFits b i = record {
-        parent = claims (parentRow b i (parentAt b i)) (fits .1 .0);
+        parent = claims (parentRow (b .n) i (parentAt b i)) (fits .1 .0);
         pends = (sym (h .counted i l) ∙ fits .1 .1 .0, tt);
-        own = claims (unitRow b i (unitAt b i)) (fits .1 .1 .1 .0);
+        own = claims (unitRow (b .n) (b .delay) i (unitAt b i)) (fits .1 .1 .1 .0);
       } in
       record {
         ranges = h .ranges;
@@ -78,10 +78,10 @@ module _ (b : Board) (counts : List ℕ) (left i : ℕ) (h : UnitsSeen b counts 
   next-fits l s = (
     omega (arith, weight-next l, h .leaves, s .s5-s6-debt),
     (
-      claims-tested (parentRow b i (parentAt b i)) (each-at (parentRow b) (b .parents) i 0 (omega (arith, h .ranges)) (s .s1-parents)),
+      claims-tested (parentRow (b .n) i (parentAt b i)) (each-at (parentRow (b .n)) (b .parents) i 0 (omega (arith, h .ranges)) (s .s1-parents)),
       (
         h .counted i l ∙ each-at (pendingRow b) (b .units) i blankUnit (omega (arith, h .ranges)) (s .s4-pending) .0,
-        (claims-tested (unitRow b i (unitAt b i)) (each-at (unitRow b) (b .units) i blankUnit (omega (arith, h .ranges)) (s .s2-units)), tt),
+        (claims-tested (unitRow (b .n) (b .delay) i (unitAt b i)) (each-at (unitRow (b .n) (b .delay)) (b .units) i blankUnit (omega (arith, h .ranges)) (s .s2-units)), tt),
       ),
     ),
   )
@@ -93,8 +93,8 @@ module _ (b : Board) (counts : List ℕ) (left i : ℕ) (h : UnitsSeen b counts 
   all-fit : 64 ≤ i → left ≡ 0 → Sound b
   all-fit l e = record {
     s1-sizes = h .ranges .1;
-    s1-parents = each-of (parentRow b) (b .parents) 0 (λ k p. h .seen k (omega (arith, h .ranges)) .parent);
-    s2-units = each-of (unitRow b) (b .units) blankUnit (λ k p. h .seen k (omega (arith, h .ranges)) .own);
+    s1-parents = each-of (parentRow (b .n)) (b .parents) 0 (λ k p. h .seen k (omega (arith, h .ranges)) .parent);
+    s2-units = each-of (unitRow (b .n) (b .delay)) (b .units) blankUnit (λ k p. h .seen k (omega (arith, h .ranges)) .own);
     s3-slots = h .slots-fit;
     s4-pending = each-of (pendingRow b) (b .units) blankUnit (λ k p. h .seen k (omega (arith, h .ranges)) .pends);
     s5-s6-debt = (omega (arith, weight-end l, h .leaves), (h .ranges .0, tt));

@@ -1,7 +1,7 @@
 -- What the two passes of the soundness test say of a board, in the words of the rules.
 use mathlib.Core.Path.{_≡_}
 use mathlib.Core.Bool.{Bool, true, false}
-use mathlib.Core.List.{List, []}
+use mathlib.Core.List.{List}
 use Prim.Native.Nat.{ℕ, _+_, _<_}
 use lib.ListN.{length, getD}
 use Rattle.rules.specs.Facts.{Each}
@@ -18,10 +18,6 @@ pub record Lengths (b : Board) : Type 0 where
   pub of-units : length (b .units) ≡ 64
   pub of-slots : length (b .slots) ≡ 256
 
--- a board of which a row of facts reads these numbers and nothing else
-abbrev pub boardWith : ℕ → ℕ → ℕ → List ℕ → Board
-boardWith n m delay parents = record { n = n; m = m; delay = delay; debt = 0; parents = parents; units = []; slots = [] }
-
 -- the unit that a slot is a request from or a supply to; for any other slot a number that no unit has
 abbrev pub pendsFor : Slot → Kind → ℕ
 pendsFor y Empty = 64
@@ -32,7 +28,7 @@ pendsFor y Supply = y .to
 
 -- what the pass over the slots found: each fits, what they leave of the debt, and what is pending for each unit
 pub record SlotsFit (b : Board) (left : ℕ) (counts : List ℕ) : Type 0 where
-  pub fit : Each (slotRow b) (b .slots)
+  pub fit : Each (slotRow (b .n) (b .m) (b .parents)) (b .slots)
   pub leaves : left + slotsWeight (b .slots) ≡ b .debt
   pub counted : (i : ℕ) → i < 64 → getD counts i 0 ≡ pending (b .slots) i
 

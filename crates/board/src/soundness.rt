@@ -8,12 +8,11 @@ use rules::UnitRecord;
 ghost use mathlib.Core.Path.{_≡_};
 ghost use mathlib.Core.Bool.{true, _&&_};
 ghost use mathlib.Core.List.{[]};
-ghost use Prim.Native.Nat.{ℕ};
 ghost use lib.ListN.{getD};
 ghost use lib.Dec.{eqb};
 ghost use Rattle.rules.specs.Facts.{tests, oneIf};
 ghost use Rattle.rules.specs.Sound.{kindRow, slotRow, stateRow, unitRow, parentRow, sizes, sound};
-ghost use Rattle.board.specs.Passes.{Lengths, boardWith, pendsFor, Counted};
+ghost use Rattle.board.specs.Passes.{Lengths, pendsFor, Counted};
 
 // What the pass over the slots gives: whether every slot fits, what the slots leave of the debt, and how many requests and supplies
 // are pending for each unit.
@@ -57,32 +56,32 @@ fn both(a: bool, b: bool) -> bool
 // ---- a single slot
 
 fn empty_fits(y: Slot) -> bool
-    ensures { λ r. ⌜ r ≡ tests (kindRow (boardWith 0 0 0 []) y Kind.Empty) ⌝ }
+    ensures { λ r. ⌜ r ≡ tests (kindRow 0 [] y Kind.Empty) ⌝ }
 {
     all3(y.from == 0, y.to == 0, y.weight == 0)
 }
 
 fn work_fits(y: Slot, n: u16) -> bool
-    ensures { λ r. ⌜ r ≡ tests (kindRow (boardWith n 0 0 []) y Kind.Work) ⌝ }
+    ensures { λ r. ⌜ r ≡ tests (kindRow n [] y Kind.Work) ⌝ }
 {
     all3(y.from < n, y.to < n, y.weight >= 1)
 }
 
 fn return_fits(y: Slot, n: u16, parents: &[u16]) -> bool
-    ensures { λ r. ⌜ r ≡ tests (kindRow (boardWith n 0 0 (now (parents .entry))) y Kind.Return) ⌝ }
+    ensures { λ r. ⌜ r ≡ tests (kindRow n (now (parents .entry)) y Kind.Return) ⌝ }
 {
     let p = parent_of(parents, y.from);
     all4(y.from >= 1, y.from < n, y.to == p, y.weight >= 1)
 }
 
 fn request_fits(y: Slot, n: u16) -> bool
-    ensures { λ r. ⌜ r ≡ tests (kindRow (boardWith n 0 0 []) y Kind.Request) ⌝ }
+    ensures { λ r. ⌜ r ≡ tests (kindRow n [] y Kind.Request) ⌝ }
 {
     all3(y.from < n, y.to == 0, y.weight == 0)
 }
 
 fn supply_fits(y: Slot, n: u16) -> bool
-    ensures { λ r. ⌜ r ≡ tests (kindRow (boardWith n 0 0 []) y Kind.Supply) ⌝ }
+    ensures { λ r. ⌜ r ≡ tests (kindRow n [] y Kind.Supply) ⌝ }
 {
     all3(y.from == 0, y.to < n, y.weight == 16_777_216)
 }
@@ -99,7 +98,7 @@ fn parent_of(parents: &[u16], u: u16) -> u16
 }
 
 fn kind_fits(y: Slot, n: u16, parents: &[u16]) -> bool
-    ensures { λ r. ⌜ ((m : ℕ) → r ≡ tests (kindRow (boardWith n m 0 (now (parents .entry))) y (y .kind))) ⌝ }
+    ensures { λ r. ⌜ r ≡ tests (kindRow n (now (parents .entry)) y (y .kind)) ⌝ }
 {
     let k = y.kind;
     match k {
@@ -113,7 +112,7 @@ fn kind_fits(y: Slot, n: u16, parents: &[u16]) -> bool
 
 // Slot j, of which m are in use.
 fn slot_fits(y: Slot, j: usize, m: u16, n: u16, parents: &[u16]) -> bool
-    ensures { λ r. ⌜ r ≡ tests (slotRow (boardWith n m 0 (now (parents .entry))) j y) ⌝ }
+    ensures { λ r. ⌜ r ≡ tests (slotRow n m (now (parents .entry)) j y) ⌝ }
 {
     if j < m as usize {
         return kind_fits(y, n, parents);
@@ -203,7 +202,7 @@ fn state_fits(u: UnitRecord, i: usize, delay: u16) -> bool
 
 // Unit i, of which n are in use.
 fn unit_fits(u: UnitRecord, i: usize, n: u16, delay: u16) -> bool
-    ensures { λ r. ⌜ r ≡ tests (unitRow (boardWith n 0 delay []) i u) ⌝ }
+    ensures { λ r. ⌜ r ≡ tests (unitRow n delay i u) ⌝ }
 {
     if i < n as usize {
         return state_fits(u, i, delay);
@@ -214,7 +213,7 @@ fn unit_fits(u: UnitRecord, i: usize, n: u16, delay: u16) -> bool
 
 // Parent 0 fits everywhere.
 fn parent_fits(p: u16, i: usize, n: u16) -> bool
-    ensures { λ r. ⌜ r ≡ tests (parentRow (boardWith n 0 0 []) i p) ⌝ }
+    ensures { λ r. ⌜ r ≡ tests (parentRow n i p) ⌝ }
 {
     if p == 0 {
         return true;

@@ -1,70 +1,44 @@
 -- One law for every step: a change of one unit, one slot and the debt that fits keeps a sound board sound.
 use mathlib.Core.Path.{_≡_, refl, sym, subst}
-use mathlib.Core.Bool.{Bool, true, false, cond}
-use lib.Dec.{ltb}
 use Prim.Native.Nat.{ℕ, _+_, _≤_, _<_}
 use native.Mathlib.Omega.{arith}
 use native.Mathlib.Decide.{ℕ-discrete}
 use lib.ListN.{length, getD, set, length-set}
 use lib.Seq.{getD-set-same, getD-set-other, set-getD}
-use Rattle.rules.specs.Facts.{Claims, Each, holds, oneIf}
-use Rattle.rules.specs.Words.{isEmpty, blankUnit, blankSlot, unitAt, slotAt, ceiling}
+use Rattle.rules.specs.Facts.{Claims, Each, oneIf}
+use Rattle.rules.specs.Words.{blankUnit, blankSlot, unitAt, slotAt, ceiling}
 use Rattle.rules.specs.Sound.{unitRow, stateRow, slotRow, kindRow, pendingRow, pendingIn, pending, unitsWeight, slotsWeight, Sound}
 use Rattle.rules.specs.Steps.{changed, applied}
-use Rattle.rules.proofs.FactLaws.{each-of, each-set, each-map}
+use Rattle.rules.proofs.FactLaws.{each-of, each-set}
 use Rattle.rules.proofs.SumLaws.{sum-set}
 use Rattle.rules.proofs.SoundLaws.{row-of, unit-row, slot-row, pending-row}
-use Rattle.rules.specs.declared.Kind.{Kind}
-use Rattle.rules.specs.declared.Kind.the-variants.{Empty, Work, Return, Request, Supply}
 use Rattle.rules.specs.declared.Effect.{Effect}
 use Rattle.rules.specs.declared.Effect.the-variants.{Refused, OnUnit, OnSlot, OnBoth}
 use Rattle.rules.specs.declared.UnitRecord.{UnitRecord}
 use Rattle.rules.specs.declared.Slot.{Slot}
 use Rattle.rules.specs.declared.Board.{Board}
-use mathlib.Core.List.{List, _∷_}
+use mathlib.Core.List.{List}
 
 -- what a change must meet: unit u becomes x, slot s becomes y, and the debt as given
 pub record Fits (b : Board) (u s : ℕ) (x : UnitRecord) (y : Slot) (debt : ℕ) : Type 0 where
   pub unit-used : u < b .n
   pub slot-used : s < b .m
   pub unit-fits : Claims (stateRow (b .delay) u x (x .state))
-  pub slot-fits : Claims (kindRow b y (y .kind))
+  pub slot-fits : Claims (kindRow (b .n) (b .parents) y (y .kind))
   pub pending-here : pendingIn u y (y .kind) + oneIf (unitAt b u .suspended) ≡ pendingIn u (slotAt b s) (slotAt b s .kind) + oneIf (x .suspended)
   pub pending-else : (i : ℕ) → (i ≡ u → ⊥) → pendingIn i y (y .kind) ≡ pendingIn i (slotAt b s) (slotAt b s .kind)
   pub weight-kept : x .weight + y .weight + b .debt ≡ unitAt b u .weight + slotAt b s .weight + debt
   pub debt-fits : debt ≤ ceiling
 
--- the rows of a slot do not look at what a change touches
-kind-row-kept : (b : Board) (us : List UnitRecord) (ys : List Slot) (debt : ℕ) (y : Slot) (k : Kind) → Claims (kindRow b y k) → Claims (kindRow (changed b us ys debt) y k)
-kind-row-kept b us ys debt y Empty h = h
-kind-row-kept b us ys debt y Work h = h
-kind-row-kept b us ys debt y Return h = h
-kind-row-kept b us ys debt y Request h = h
-kind-row-kept b us ys debt y Supply h = h
-
-slot-row-kept : (b : Board) (us : List UnitRecord) (ys : List Slot) (debt j : ℕ) (y : Slot) → Claims (slotRow b j y) → Claims (slotRow (changed b us ys debt) j y)
-slot-row-kept b us ys debt j y h = by-test (ltb j (b .m)) h
-  where
-    by-test : (t : Bool) → Claims (cond t (kindRow b y (y .kind)) (holds (isEmpty (y .kind)) ∷ kindRow b y Empty)) → Claims (cond t (kindRow (changed b us ys debt) y (y .kind)) (holds (isEmpty (y .kind)) ∷ kindRow b y Empty))
-    by-test true c = kind-row-kept b us ys debt y (y .kind) c
-    by-test false c = c
-
 module _ (b : Board) (h : Sound b) (u s : ℕ) (x : UnitRecord) (y : Slot) (debt : ℕ) (f : Fits b u s x y debt) where
   abbrev new : Board
   new = changed b (set (b .units) u x) (set (b .slots) s y) debt
 
-  new-units : Each (unitRow b) (set (b .units) u x)
-  new-units = each-set (unitRow b) (b .units) u x (row-of u (b .n) _ _ (λ l. f .unit-fits) (λ l. absurd (omega arith))) (h .s2-units)
+  new-units : Each (unitRow (b .n) (b .delay)) (set (b .units) u x)
+  new-units = each-set (unitRow (b .n) (b .delay)) (b .units) u x (row-of u (b .n) _ _ (λ l. f .unit-fits) (λ l. absurd (omega arith))) (h .s2-units)
 
-  new-slots : Each (slotRow b) (set (b .slots) s y)
-  new-slots = each-set (slotRow b) (b .slots) s y (row-of s (b .m) _ _ (λ l. f .slot-fits) (λ l. absurd (omega arith))) (h .s3-slots)
-
-  -- the same slots, in rows that cite the new board
-  new-slots-there : Each (slotRow new) (set (b .slots) s y)
-  new-slots-there =
-      each-map (slotRow b) (slotRow new) (set (b .slots) s y) blankSlot
-      (λ j l c. slot-row-kept b (set (b .units) u x) (set (b .slots) s y) debt j (getD (set (b .slots) s y) j blankSlot) c)
-      new-slots
+  new-slots : Each (slotRow (b .n) (b .m) (b .parents)) (set (b .slots) s y)
+  new-slots = each-set (slotRow (b .n) (b .m) (b .parents)) (b .slots) s y (row-of s (b .m) _ _ (λ l. f .slot-fits) (λ l. absurd (omega arith))) (h .s3-slots)
 
   pending-sum : (i : ℕ) → pending (set (b .slots) s y) i + pendingIn i (slotAt b s) (slotAt b s .kind) ≡ pending (b .slots) i + pendingIn i y (y .kind)
   unfolding pending
@@ -95,7 +69,7 @@ module _ (b : Board) (h : Sound b) (u s : ℕ) (x : UnitRecord) (y : Slot) (debt
     s1-sizes = omega (arith, length-set (b .units) u x, length-set (b .slots) s y);
     s1-parents = h .s1-parents;
     s2-units = new-units;
-    s3-slots = new-slots-there;
+    s3-slots = new-slots;
     s4-pending = each-of (pendingRow new) (set (b .units) u x) blankUnit (λ i l. (new-pending i l, tt));
     s5-s6-debt = omega (arith, units-sum, slots-sum, f .weight-kept, f .debt-fits);
   }
@@ -114,7 +88,7 @@ unit-change b h u x debt l c e w q = record {
   debt-fits = q;
 }
 
-pub slot-change : (b : Board) → Sound b → (s : ℕ) (y : Slot) (debt : ℕ) → s < b .m → Claims (kindRow b y (y .kind)) → ((i : ℕ) → pendingIn i y (y .kind) ≡ pendingIn i (slotAt b s) (slotAt b s .kind))
+pub slot-change : (b : Board) → Sound b → (s : ℕ) (y : Slot) (debt : ℕ) → s < b .m → Claims (kindRow (b .n) (b .parents) y (y .kind)) → ((i : ℕ) → pendingIn i y (y .kind) ≡ pendingIn i (slotAt b s) (slotAt b s .kind))
     → y .weight + b .debt ≡ slotAt b s .weight + debt → debt ≤ ceiling → Fits b 0 s (unitAt b 0) y debt
 slot-change b h s y debt l c e w q = record {
   unit-used = omega arith;

@@ -75,10 +75,7 @@ unfolding Each
 each-of row [] d h = tt
 each-of row (x ∷ xs) d h = (h 0 (Prim.Native.Nat.suc-le-suc Prim.Native.Nat.zero-le), each-of (λ k. row (suc k)) xs d (λ i l. h (suc i) (Prim.Native.Nat.suc-le-suc l)))
 
--- another row for each element, and one element set
-pub each-map : {A : Type 0} (row row′ : ℕ → A → List Fact) (xs : List A) (d : A) → ((i : ℕ) → i < length xs → Claims (row i (getD xs i d)) → Claims (row′ i (getD xs i d))) → Each row xs → Each row′ xs
-each-map row row′ xs d f h = each-of row′ xs d (λ i l. f i l (each-at row xs i d l h))
-
+-- one element set
 pub each-set : {A : Type 0} (row : ℕ → A → List Fact) (xs : List A) (i : ℕ) (a : A) → Claims (row i a) → Each row xs → Each row (set xs i a)
 unfolding Each
 each-set row [] i a p h = tt

@@ -49,9 +49,9 @@ module _ (m d : ℕ) (ps : List ℕ) (c : Claims (asked (openingChecks m d ps)))
   rest-length : length (ps ++ replicate (63 - length ps) 0) ≡ 63
   rest-length = omega (arith, length-append ps (replicate (63 - length ps) 0), length-replicate {A = ℕ} (63 - length ps) 0, c)
 
-  parents-rows : Each (parentRow b) (0 ∷ ps ++ replicate (63 - length ps) 0)
+  parents-rows : Each (parentRow (b .n)) (0 ∷ ps ++ replicate (63 - length ps) 0)
   unfolding fresh lowerParents
-  parents-rows = each-of (parentRow b) (0 ∷ ps ++ replicate (63 - length ps) 0) 0 at
+  parents-rows = each-of (parentRow (b .n)) (0 ∷ ps ++ replicate (63 - length ps) 0) 0 at
     where
       used : (k : ℕ) → k < length ps → suc (getD ps k 0) ≤ suc k
       used k l = each-at (λ i p. below p (suc i) ∷ []) ps k 0 l (each-claims (λ i p. below p (suc i) ∷ []) ps (c .1 .1 .1 .1 .0)) .0
@@ -61,7 +61,7 @@ module _ (m d : ℕ) (ps : List ℕ) (c : Claims (asked (openingChecks m d ps)))
           let e : length ps + (k - length ps) ≡ k = omega arith in
           ap (λ (j : ℕ). getD (ps ++ replicate (63 - length ps) 0) j 0) (sym e) ∙ getD-append-add ps (replicate (63 - length ps) 0) (k - length ps) 0 ∙ getD-replicate (63 - length ps) (k - length ps) 0 0 (omega arith)
 
-      at : (i : ℕ) → i < length (0 ∷ ps ++ replicate (63 - length ps) 0) → Claims (parentRow b i (getD (0 ∷ ps ++ replicate (63 - length ps) 0) i 0))
+      at : (i : ℕ) → i < length (0 ∷ ps ++ replicate (63 - length ps) 0) → Claims (parentRow (b .n) i (getD (0 ∷ ps ++ replicate (63 - length ps) 0) i 0))
       at zero l = row-of 0 (suc (length ps)) _ _ (λ p. (refl, tt)) (λ p. (refl, tt))
       at (suc k) l =
           row-of (suc k) (suc (length ps)) _ _ (λ p. (rw (List·getD-append ps (replicate (63 - length ps) 0) 0 k (le-of-suc-le-suc p)) (used k (le-of-suc-le-suc p)), tt))
@@ -72,10 +72,10 @@ module _ (m d : ℕ) (ps : List ℕ) (c : Claims (asked (openingChecks m d ps)))
   fresh-sound = record {
     s1-sizes = omega (arith, rest-length, length-replicate 64 blankUnit, length-replicate 256 blankSlot, c);
     s1-parents = parents-rows;
-    s2-units = each-of (unitRow b) (b .units) blankUnit
-        (λ i l. blank-at 64 i blankUnit (λ (u : UnitRecord). Claims (unitRow b i u)) l (row-of i (b .n) _ _ (λ p. (refl, (refl, (refl, tt)))) (λ p. (refl, (refl, (refl, (refl, tt)))))));
-    s3-slots = each-of (slotRow b) (b .slots) blankSlot
-        (λ j l. blank-at 256 j blankSlot (λ (y : Slot). Claims (slotRow b j y)) l (row-of j (b .m) _ _ (λ p. (refl, (refl, (refl, tt)))) (λ p. (refl, (refl, (refl, (refl, tt)))))));
+    s2-units = each-of (unitRow (b .n) (b .delay)) (b .units) blankUnit
+        (λ i l. blank-at 64 i blankUnit (λ (u : UnitRecord). Claims (unitRow (b .n) (b .delay) i u)) l (row-of i (b .n) _ _ (λ p. (refl, (refl, (refl, tt)))) (λ p. (refl, (refl, (refl, (refl, tt)))))));
+    s3-slots = each-of (slotRow (b .n) (b .m) (b .parents)) (b .slots) blankSlot
+        (λ j l. blank-at 256 j blankSlot (λ (y : Slot). Claims (slotRow (b .n) (b .m) (b .parents) j y)) l (row-of j (b .m) _ _ (λ p. (refl, (refl, (refl, tt)))) (λ p. (refl, (refl, (refl, (refl, tt)))))));
     s4-pending = each-of (pendingRow b) (b .units) blankUnit
         (λ i l. blank-at 64 i blankUnit (λ (u : UnitRecord). Claims (pendingRow b i u)) l
         (sum-none (λ j y. pendingIn i y (y .kind)) (b .slots) blankSlot (λ j q. blank-at 256 j blankSlot (λ (y : Slot). pendingIn i y (y .kind) ≡ 0) q refl), tt));

@@ -25,9 +25,9 @@ sound-claims b e =
     let t = claims (soundRow b) e in
     record {
       s1-sizes = claims (sizes b) (t .0);
-      s1-parents = each-claims (parentRow b) (b .parents) (t .1 .0);
-      s2-units = each-claims (unitRow b) (b .units) (t .1 .1 .0);
-      s3-slots = each-claims (slotRow b) (b .slots) (t .1 .1 .1 .0);
+      s1-parents = each-claims (parentRow (b .n)) (b .parents) (t .1 .0);
+      s2-units = each-claims (unitRow (b .n) (b .delay)) (b .units) (t .1 .1 .0);
+      s3-slots = each-claims (slotRow (b .n) (b .m) (b .parents)) (b .slots) (t .1 .1 .1 .0);
       s4-pending = each-claims (pendingRow b) (b .units) (t .1 .1 .1 .1 .0);
       s5-s6-debt = claims (debtRow b) (t .1 .1 .1 .1 .1 .0);
     }
@@ -38,11 +38,11 @@ sound-tested b h =
     claims-tested (soundRow b) (
       claims-tested (sizes b) (h .s1-sizes),
       (
-        each-tested (parentRow b) (b .parents) (h .s1-parents),
+        each-tested (parentRow (b .n)) (b .parents) (h .s1-parents),
         (
-          each-tested (unitRow b) (b .units) (h .s2-units),
+          each-tested (unitRow (b .n) (b .delay)) (b .units) (h .s2-units),
           (
-            each-tested (slotRow b) (b .slots) (h .s3-slots),
+            each-tested (slotRow (b .n) (b .m) (b .parents)) (b .slots) (h .s3-slots),
             (each-tested (pendingRow b) (b .units) (h .s4-pending), (claims-tested (debtRow b) (h .s5-s6-debt), tt)),
           ),
         ),
@@ -74,7 +74,7 @@ below-or-not {X} i n f g = by-test (ltb i n) refl
 -- ---- the entries of a sound board
 module _ (b : Board) (h : Sound b) where
   pub parent-row : (i : ℕ) → i < b .n → Claims (lowerParent i (parentAt b i))
-  parent-row i l = row-in-use i (b .n) (lowerParent i (parentAt b i)) _ l (each-at (parentRow b) (b .parents) i 0 (omega arith) (h .s1-parents))
+  parent-row i l = row-in-use i (b .n) (lowerParent i (parentAt b i)) _ l (each-at (parentRow (b .n)) (b .parents) i 0 (omega arith) (h .s1-parents))
 
   -- every other unit's parent has a lower number; unit 0's is 0
   pub parent-below : (i : ℕ) → 1 ≤ i → i < b .n → parentAt b i < i
@@ -82,12 +82,12 @@ module _ (b : Board) (h : Sound b) where
   parent-below (suc i) p l = parent-row (suc i) l .0
 
   pub unit-row : (i : ℕ) → i < b .n → Claims (stateRow (b .delay) i (unitAt b i) (unitAt b i .state))
-  unit-row i l = row-in-use i (b .n) (stateRow (b .delay) i (unitAt b i) (unitAt b i .state)) _ l (each-at (unitRow b) (b .units) i blankUnit (omega arith) (h .s2-units))
+  unit-row i l = row-in-use i (b .n) (stateRow (b .delay) i (unitAt b i) (unitAt b i .state)) _ l (each-at (unitRow (b .n) (b .delay)) (b .units) i blankUnit (omega arith) (h .s2-units))
 
   -- an entry from n on is blank
   unit-past-row : (i : ℕ) → b .n ≤ i → Claims (holds (isIdle (unitAt b i .state)) ∷ stateRow (b .delay) i (unitAt b i) Idle)
   unit-past-row i l =
-      below-or-not i 64 (λ p. row-past i (b .n) (stateRow (b .delay) i (unitAt b i) (unitAt b i .state)) _ l (each-at (unitRow b) (b .units) i blankUnit (omega arith) (h .s2-units)))
+      below-or-not i 64 (λ p. row-past i (b .n) (stateRow (b .delay) i (unitAt b i) (unitAt b i .state)) _ l (each-at (unitRow (b .n) (b .delay)) (b .units) i blankUnit (omega arith) (h .s2-units)))
       (λ p. subst (λ (u : UnitRecord). Claims (holds (isIdle (u .state)) ∷ stateRow (b .delay) i u Idle)) (sym (List·getD-eq-default (b .units) blankUnit (omega arith))) (refl, (refl, (refl, (refl, tt)))))
 
   pub unit-past : (i : ℕ) → b .n ≤ i → isIdle (unitAt b i .state) ≡ true
@@ -96,14 +96,14 @@ module _ (b : Board) (h : Sound b) where
   pub unit-past-weight : (i : ℕ) → b .n ≤ i → unitAt b i .weight ≡ 0
   unit-past-weight i l = unit-past-row i l .1 .0
 
-  pub slot-row : (j : ℕ) → j < b .m → Claims (kindRow b (slotAt b j) (slotAt b j .kind))
-  slot-row j l = row-in-use j (b .m) (kindRow b (slotAt b j) (slotAt b j .kind)) _ l (each-at (slotRow b) (b .slots) j blankSlot (omega arith) (h .s3-slots))
+  pub slot-row : (j : ℕ) → j < b .m → Claims (kindRow (b .n) (b .parents) (slotAt b j) (slotAt b j .kind))
+  slot-row j l = row-in-use j (b .m) (kindRow (b .n) (b .parents) (slotAt b j) (slotAt b j .kind)) _ l (each-at (slotRow (b .n) (b .m) (b .parents)) (b .slots) j blankSlot (omega arith) (h .s3-slots))
 
   -- an entry from M on is blank
-  slot-past-row : (j : ℕ) → b .m ≤ j → Claims (holds (isEmpty (slotAt b j .kind)) ∷ kindRow b (slotAt b j) Empty)
+  slot-past-row : (j : ℕ) → b .m ≤ j → Claims (holds (isEmpty (slotAt b j .kind)) ∷ kindRow (b .n) (b .parents) (slotAt b j) Empty)
   slot-past-row j l =
-      below-or-not j 256 (λ p. row-past j (b .m) (kindRow b (slotAt b j) (slotAt b j .kind)) _ l (each-at (slotRow b) (b .slots) j blankSlot (omega arith) (h .s3-slots)))
-      (λ p. subst (λ (y : Slot). Claims (holds (isEmpty (y .kind)) ∷ kindRow b y Empty)) (sym (List·getD-eq-default (b .slots) blankSlot (omega arith))) (refl, (refl, (refl, (refl, tt)))))
+      below-or-not j 256 (λ p. row-past j (b .m) (kindRow (b .n) (b .parents) (slotAt b j) (slotAt b j .kind)) _ l (each-at (slotRow (b .n) (b .m) (b .parents)) (b .slots) j blankSlot (omega arith) (h .s3-slots)))
+      (λ p. subst (λ (y : Slot). Claims (holds (isEmpty (y .kind)) ∷ kindRow (b .n) (b .parents) y Empty)) (sym (List·getD-eq-default (b .slots) blankSlot (omega arith))) (refl, (refl, (refl, (refl, tt)))))
 
   pub slot-past : (j : ℕ) → b .m ≤ j → isEmpty (slotAt b j .kind) ≡ true
   slot-past j l = slot-past-row j l .0

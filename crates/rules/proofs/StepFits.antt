@@ -56,8 +56,8 @@ waiting-row d i w c p q l t e = (p, (q, (e, (l, tt))))
 pub unit-row-as : (b : Board) → Sound b → (i : ℕ) (k : State) → i < b .n → unitAt b i .state ≡ k → Claims (stateRow (b .delay) i (unitAt b i) k)
 unit-row-as b h i k l e = subst (λ (j : State). Claims (stateRow (b .delay) i (unitAt b i) j)) e (unit-row b h i l)
 
-pub slot-row-as : (b : Board) → Sound b → (s : ℕ) (k : Kind) → s < b .m → slotAt b s .kind ≡ k → Claims (kindRow b (slotAt b s) k)
-slot-row-as b h s k l e = subst (λ (j : Kind). Claims (kindRow b (slotAt b s) j)) e (slot-row b h s l)
+pub slot-row-as : (b : Board) → Sound b → (s : ℕ) (k : Kind) → s < b .m → slotAt b s .kind ≡ k → Claims (kindRow (b .n) (b .parents) (slotAt b s) k)
+slot-row-as b h s k l e = subst (λ (j : Kind). Claims (kindRow (b .n) (b .parents) (slotAt b s) j)) e (slot-row b h s l)
 
 pub pending-as : (i : ℕ) (y : Slot) (k : Kind) → y .kind ≡ k → pendingIn i y (y .kind) ≡ pendingIn i y k
 pending-as i y k e = ap (pendingIn i y) e
@@ -229,7 +229,7 @@ module _ (b : Board) (r : StepRecord) (h : Sound b) where
     return-fits : y .kind ≡ Return → FitsEffect b (y .to) (r .slot) (returnEffect (b .debt) (b .delay) x y)
     return-fits e = by-receiver (eqb (y .to) 0) refl
       where
-        row : Claims (kindRow b y Return)
+        row : Claims (kindRow (b .n) (b .parents) y Return)
         row = slot-row-as b h (r .slot) Return used e
 
         receiver : y .to < b .n

@@ -2,10 +2,10 @@
 use mathlib.Core.Bool.{Bool, cond}
 use mathlib.Core.List.{List, [], _∷_}
 use Prim.Native.Nat.{ℕ, zero, suc, _+_}
-use lib.ListN.{length}
+use lib.ListN.{length, getD}
 use lib.Dec.{ltb, eqb}
 use Rattle.rules.specs.Facts.{Fact, below, atMost, equal, holds, fails, Claims, tests, Each, each, sumOf, oneIf}
-use Rattle.rules.specs.Words.{isIdle, isEmpty, parentAt, grant, ceiling}
+use Rattle.rules.specs.Words.{isIdle, isEmpty, grant, ceiling}
 use Rattle.rules.specs.declared.State.{State}
 use Rattle.rules.specs.declared.State.the-variants.{Idle, Active, Waiting}
 use Rattle.rules.specs.declared.Kind.{Kind}
@@ -32,8 +32,8 @@ abbrev pub lowerParent : ℕ → ℕ → List Fact
 lowerParent zero p = equal p 0 ∷ []
 lowerParent (suc i) p = below p (suc i) ∷ []
 
-abbrev pub parentRow : Board → ℕ → ℕ → List Fact
-parentRow b i p = cond (ltb i (b .n)) (lowerParent i p) (equal p 0 ∷ [])
+abbrev pub parentRow : ℕ → ℕ → ℕ → List Fact
+parentRow n i p = cond (ltb i n) (lowerParent i p) (equal p 0 ∷ [])
 
 -- S2: what a unit in use has in each state
 abbrev pub stateRow : ℕ → ℕ → UnitRecord → State → List Fact
@@ -42,20 +42,20 @@ stateRow delay i u Active = atMost 1 (u .weight) ∷ equal (u .countdown) 0 ∷ 
 stateRow delay i u Waiting = atMost 1 (u .weight) ∷ atMost (u .countdown) delay ∷ fails (u .suspended) ∷ atMost 1 i ∷ []
 
 -- S2 for a unit in use; S1 for an entry from n on, which is blank
-abbrev pub unitRow : Board → ℕ → UnitRecord → List Fact
-unitRow b i u = cond (ltb i (b .n)) (stateRow (b .delay) i u (u .state)) (holds (isIdle (u .state)) ∷ stateRow (b .delay) i u Idle)
+abbrev pub unitRow : ℕ → ℕ → ℕ → UnitRecord → List Fact
+unitRow n delay i u = cond (ltb i n) (stateRow delay i u (u .state)) (holds (isIdle (u .state)) ∷ stateRow delay i u Idle)
 
 -- S3: what a slot in use has in each kind
-abbrev pub kindRow : Board → Slot → Kind → List Fact
-kindRow b y Empty = equal (y .from) 0 ∷ equal (y .to) 0 ∷ equal (y .weight) 0 ∷ []
-kindRow b y Work = below (y .from) (b .n) ∷ below (y .to) (b .n) ∷ atMost 1 (y .weight) ∷ []
-kindRow b y Return = atMost 1 (y .from) ∷ below (y .from) (b .n) ∷ equal (y .to) (parentAt b (y .from)) ∷ atMost 1 (y .weight) ∷ []
-kindRow b y Request = below (y .from) (b .n) ∷ equal (y .to) 0 ∷ equal (y .weight) 0 ∷ []
-kindRow b y Supply = equal (y .from) 0 ∷ below (y .to) (b .n) ∷ equal (y .weight) grant ∷ []
+abbrev pub kindRow : ℕ → List ℕ → Slot → Kind → List Fact
+kindRow n parents y Empty = equal (y .from) 0 ∷ equal (y .to) 0 ∷ equal (y .weight) 0 ∷ []
+kindRow n parents y Work = below (y .from) n ∷ below (y .to) n ∷ atMost 1 (y .weight) ∷ []
+kindRow n parents y Return = atMost 1 (y .from) ∷ below (y .from) n ∷ equal (y .to) (getD parents (y .from) 0) ∷ atMost 1 (y .weight) ∷ []
+kindRow n parents y Request = below (y .from) n ∷ equal (y .to) 0 ∷ equal (y .weight) 0 ∷ []
+kindRow n parents y Supply = equal (y .from) 0 ∷ below (y .to) n ∷ equal (y .weight) grant ∷ []
 
 -- S3 for a slot in use; S1 for an entry from M on, which is blank
-abbrev pub slotRow : Board → ℕ → Slot → List Fact
-slotRow b j y = cond (ltb j (b .m)) (kindRow b y (y .kind)) (holds (isEmpty (y .kind)) ∷ kindRow b y Empty)
+abbrev pub slotRow : ℕ → ℕ → List ℕ → ℕ → Slot → List Fact
+slotRow n m parents j y = cond (ltb j m) (kindRow n parents y (y .kind)) (holds (isEmpty (y .kind)) ∷ kindRow n parents y Empty)
 
 -- S4: 1 where a slot is a request from unit i or a supply to it
 abbrev pub pendingIn : ℕ → Slot → Kind → ℕ
@@ -88,9 +88,9 @@ debtRow b = equal (weightOut b) (b .debt) ∷ atMost (b .debt) ceiling ∷ []
 
 pub record Sound (b : Board) : Type 0 where
   pub s1-sizes : Claims (sizes b)
-  pub s1-parents : Each (parentRow b) (b .parents)
-  pub s2-units : Each (unitRow b) (b .units)
-  pub s3-slots : Each (slotRow b) (b .slots)
+  pub s1-parents : Each (parentRow (b .n)) (b .parents)
+  pub s2-units : Each (unitRow (b .n) (b .delay)) (b .units)
+  pub s3-slots : Each (slotRow (b .n) (b .m) (b .parents)) (b .slots)
   pub s4-pending : Each (pendingRow b) (b .units)
   pub s5-s6-debt : Claims (debtRow b)
 
@@ -98,9 +98,9 @@ pub record Sound (b : Board) : Type 0 where
 abbrev pub soundRow : Board → List Fact
 soundRow b =
     holds (tests (sizes b))
-    ∷ holds (each (parentRow b) (b .parents))
-    ∷ holds (each (unitRow b) (b .units))
-    ∷ holds (each (slotRow b) (b .slots))
+    ∷ holds (each (parentRow (b .n)) (b .parents))
+    ∷ holds (each (unitRow (b .n) (b .delay)) (b .units))
+    ∷ holds (each (slotRow (b .n) (b .m) (b .parents)) (b .slots))
     ∷ holds (each (pendingRow b) (b .units))
     ∷ holds (tests (debtRow b))
     ∷ []

@@ -1,5 +1,5 @@
 -- `list` ends: the turns that are left fall. The buffer keeps its length.
-use mathlib.Core.Path.{_≡_, _∙_}
+use mathlib.Core.Path.{_≡_}
 use native.Mathlib.Omega.{arith}
 use lib.ListN.{length}
 use borrow.Author.Needs.{needs}

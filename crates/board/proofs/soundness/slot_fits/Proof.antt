@@ -8,7 +8,7 @@ kind-fits-requires : tie.Need-kind-fits-requires
 kind-fits-requires c κs = search needs
 
 returns : tie.Need-returns
-returns c = rw (lt-ltb _ _ (c .before .if1 .taken)) (c .kind-fits .ensures (c .before .before .before .args .m))
+returns c = rw (lt-ltb _ _ (c .before .if1 .taken)) (c .kind-fits .ensures)
 
 is-empty-requires : tie.Need-is-empty-requires
 is-empty-requires c κs = search needs
