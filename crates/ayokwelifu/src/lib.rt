@@ -1,4 +1,6 @@
 // The functions for callers in other languages, over numbers and byte slices. include/ayokwelifu.h declares them for C.
+mod lines;
+
 use listing::list_all;
 use listing::listing_length;
 use placing::Wrote;
@@ -8,7 +10,7 @@ ghost use Rattle.placing.specs.Placing.{wrote, written};
 ghost use Rattle.listing.specs.Scripts.{listing};
 ghost use Rattle.ayokwelifu.specs.Answers.{numberOf, cellAfter};
 
-fn number_of(w: Wrote) -> u16
+pub(crate) fn number_of(w: Wrote) -> u16
     ensures { λ k. ⌜ k ≡ numberOf w ⌝ }
 {
     match w {
@@ -17,7 +19,7 @@ fn number_of(w: Wrote) -> u16
     }
 }
 
-fn cell_after(old: u64, w: Wrote) -> u64
+pub(crate) fn cell_after(old: u64, w: Wrote) -> u64
     ensures { λ n. ⌜ n ≡ cellAfter old w ⌝ }
 {
     match w {

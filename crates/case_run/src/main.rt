@@ -1,10 +1,10 @@
 // Runs over a list: what the buffer holds after each, what it gives, and the debt and the state of the board after it.
 ghost use Prim.Native.Nat.{_≤_};
-use casekit::cell;
-use casekit::newline;
-use casekit::number;
-use casekit::tab;
-use casekit::text;
+use casetext::cell;
+use casetext::newline;
+use casetext::number;
+use casetext::tab;
+use casetext::text;
 use rules::Board;
 use rules::Ran;
 use rules::StepRecord;
@@ -105,7 +105,7 @@ fn run(title: &[u8], b: Board, list: [StepRecord; 16], count: usize, room: usize
     tell_ran(ran);
     cell(c.debt);
     tab();
-    casekit::verdict(board::finished(c));
+    casetext::verdict(board::finished(c));
     newline();
     c
 }

@@ -1,8 +1,8 @@
 // One unit sends from 2^24 until its weight is 1: 16,393 times. Each message is delivered before the next, so that the slot is free.
-use casekit::cell;
-use casekit::newline;
-use casekit::number;
-use casekit::text;
+use casetext::cell;
+use casetext::newline;
+use casetext::number;
+use casetext::text;
 use rules::Board;
 use rules::Outcome;
 use rules::StepRecord;

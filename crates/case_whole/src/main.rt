@@ -1,9 +1,9 @@
 // The whole case through the library's calls: for each step its number, answer and debt, and whether the sheet is finished.
-use casekit::cell;
-use casekit::newline;
-use casekit::number;
-use casekit::tab;
-use casekit::text;
+use casetext::cell;
+use casetext::newline;
+use casetext::number;
+use casetext::tab;
+use casetext::text;
 use rules::Board;
 use rules::Outcome;
 use rules::StepRecord;
@@ -26,7 +26,7 @@ fn line(i: usize, out: Outcome) -> Board {
     cell(out.answer as u64);
     cell(b.debt);
     tab();
-    casekit::verdict(board::finished(b));
+    casetext::verdict(board::finished(b));
     newline();
     b
 }

@@ -1,16 +1,11 @@
 // What the programs that execute cases share. A case is a row of five numbers: what it is, and four numbers that go with it.
-mod changes;
 mod edits;
+mod names;
 mod tell;
-mod words;
 
+use casetext::newline;
+use casetext::text;
 use rules::Board;
-pub use words::cell;
-pub use words::newline;
-pub use words::number;
-pub use words::tab;
-pub use words::text;
-pub use words::verdict;
 
 // An opening: M, d, how many parents, the last parent. The other parents are 0.
 pub const OPEN: u64 = 0;

@@ -1,11 +1,10 @@
 // The lines that a row writes.
-use crate::changes;
 use crate::edits;
-use crate::words;
-use crate::words::cell;
-use crate::words::newline;
-use crate::words::tab;
-use crate::words::text;
+use crate::names;
+use casetext::cell;
+use casetext::newline;
+use casetext::tab;
+use casetext::text;
 use rules::Board;
 use rules::Outcome;
 use rules::StepRecord;
@@ -16,13 +15,13 @@ fn outcome(a: Board, out: Outcome, word: &[u8]) -> Board {
     cell(out.answer as u64);
     cell(b.debt);
     tab();
-    words::verdict(board::finished(b));
-    changes::tell(a, b, word);
+    casetext::verdict(board::finished(b));
+    casetext::tell(a, b, word);
     b
 }
 
 fn step(b: Board, row: [u64; 5]) -> Board {
-    words::step(row[1]);
+    names::step(row[1]);
     cell(row[2]);
     cell(row[3]);
     cell(row[4]);
@@ -30,7 +29,7 @@ fn step(b: Board, row: [u64; 5]) -> Board {
 }
 
 fn name(row: [u64; 5]) {
-    words::row(row[0]);
+    names::row(row[0]);
     cell(row[1]);
     cell(row[2]);
     cell(row[3]);
@@ -44,10 +43,10 @@ fn opening(row: [u64; 5]) -> Board {
 }
 
 fn depth(b: Board, row: [u64; 5]) -> Board {
-    words::row(row[0]);
+    names::row(row[0]);
     cell(row[1]);
     tab();
-    words::depth(board::depth_of(b, edits::small(row[1])));
+    casetext::depth(board::depth_of(b, edits::small(row[1])));
     newline();
     b
 }
@@ -76,9 +75,9 @@ fn edit(b: Board, row: [u64; 5]) -> Board {
     soundness(board::is_sound(c));
     cell(steps::step(c, TICK_0).answer as u64);
     tab();
-    words::depth(board::depth_of(c, 0));
+    casetext::depth(board::depth_of(c, 0));
     tab();
-    words::verdict(board::finished(c));
+    casetext::verdict(board::finished(c));
     newline();
     c
 }

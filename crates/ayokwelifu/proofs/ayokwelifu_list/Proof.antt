@@ -1,7 +1,6 @@
 -- `ayokwelifu_list` meets its contract: the number and the cell are those of the listing's answer.
-use mathlib.Core.Path.{ap, _∙_}
 use borrow.Author.Needs.{needs}
-use Rattle.ayokwelifu.specs.Answers.{numberOf, cellAfter}
+use Rattle.ayokwelifu.proofs.Telling.{told}
 use Rattle.ayokwelifu.proofs.ayokwelifu_list.Statement.{statement}
 use Rattle.ayokwelifu.proofs.ayokwelifu_list.Tie as tie
 
@@ -20,7 +19,8 @@ same-length c = search needs
 returns : tie.Need-returns
 returns c =
     let listed = c .before .before .before .before .before .list-all .ensures in
-    (c .number-of .ensures ∙ ap numberOf (listed .0), (c .before .cell-after .ensures ∙ ap (cellAfter _) (listed .0), listed .1))
+    let answer = told _ (listed .0) (c .number-of .ensures) (c .before .cell-after .ensures) in
+    (answer .0, (answer .1, listed .1))
 
 pub ayokwelifu-list-spec : {M : Type 1} → statement M
 ayokwelifu-list-spec =

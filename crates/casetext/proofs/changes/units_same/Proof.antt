@@ -1,8 +1,8 @@
 -- The measure is the number of units that are left.
 use Prim.Native.Nat.{_≤_, _-_}
 use borrow.Author.Needs.{needs}
-use Rattle.casekit.proofs.changes.units_same.Statement.{statement}
-use Rattle.casekit.proofs.changes.units_same.Tie as tie
+use Rattle.casetext.proofs.changes.units_same.Statement.{statement}
+use Rattle.casetext.proofs.changes.units_same.Tie as tie
 
 abbrev Inv-loop : tie.InvT-loop
 Inv-loop a b same₀ i₀ same i = i ≤ 64

@@ -1,9 +1,10 @@
 // How a board differs from another: a line for each entry that does.
-use crate::words;
-use crate::words::cell;
-use crate::words::newline;
-use crate::words::tab;
-use crate::words::text;
+use crate::cell;
+use crate::kind;
+use crate::newline;
+use crate::state;
+use crate::tab;
+use crate::text;
 use rules::Board;
 use rules::Kind;
 use rules::Slot;
@@ -63,7 +64,7 @@ fn tell_unit(i: usize, x: UnitRecord) {
     under(b"unit");
     cell(i as u64);
     tab();
-    words::state(s);
+    state(s);
     cell(x.weight);
     cell(x.countdown as u64);
     tab();
@@ -75,7 +76,7 @@ fn tell_slot(j: usize, y: Slot) {
     under(b"slot");
     cell(j as u64);
     tab();
-    words::kind(k);
+    kind(k);
     cell(y.from as u64);
     cell(y.to as u64);
     cell(y.weight);
@@ -135,7 +136,7 @@ fn sizes_same(a: Board, b: Board) -> bool {
 }
 
 // Writes how b differs from a, or the word where they are the same. The debt is not written: it stands in the row's line.
-pub(crate) fn tell(a: Board, b: Board, word: &[u8]) {
+pub fn tell(a: Board, b: Board, word: &[u8]) {
     let sizes = sizes_same(a, b);
     let parents = parents_same(a, b);
     let units = units_same(a, b);
