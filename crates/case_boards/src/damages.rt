@@ -1,6 +1,9 @@
 // The damages by number: for each field the values that it is set to, then the next field.
 ghost use Prim.Native.Nat.{_≤_};
+use crate::LARGEST;
+use crate::MOST;
 use crate::edits;
+use casekit::GRANT;
 use rules::Board;
 use rules::Kind;
 use rules::Slot;
@@ -10,14 +13,6 @@ use std::num::wrapping_add_u16;
 use std::num::wrapping_add_u64;
 use std::num::wrapping_sub_u16;
 use std::num::wrapping_sub_u64;
-
-// 2^24, what a supply carries.
-const GRANT: u64 = 16777216;
-
-// 2^40, the most debt.
-const MOST: u64 = 1099511627776;
-
-const LARGEST: u64 = 18446744073709551615;
 
 // The first entries by number, then the last.
 fn entry(k: usize, first: usize, last: usize) -> usize

@@ -1,22 +1,18 @@
 // Boards of three units and three slots about the limits of weights, debt and suspension.
+use crate::LARGEST;
+use crate::MOST;
 use crate::edits::with_debt;
 use crate::edits::with_slot;
 use crate::edits::with_unit;
+use casekit::GRANT;
 use rules::Board;
 use rules::Kind;
 use rules::Slot;
 use rules::State;
 use rules::UnitRecord;
 
-// 2^24, what a grant brings.
-const GRANT: u64 = 16777216;
-
-// 2^40, the most debt.
-const MOST: u64 = 1099511627776;
-
+// 2^63: twice that wraps to 0.
 const HALF: u64 = 9223372036854775808;
-
-const LARGEST: u64 = 18446744073709551615;
 
 fn active(weight: u64, suspended: bool) -> UnitRecord {
     UnitRecord {

@@ -9,6 +9,12 @@ mod weights;
 use casekit::text;
 use rules::Board;
 
+// 2^40, the most debt.
+pub(crate) const MOST: u64 = 1099511627776;
+
+// 2^64 - 1, the most that a weight or a debt can hold.
+pub(crate) const LARGEST: u64 = 18446744073709551615;
+
 // Sizes, parents, units and slots.
 const FIELDS: usize = 448;
 

@@ -124,7 +124,7 @@
 //!
 //! For each the rooms 0, one byte less than the line has, as many as it has,
 //! one more, 40; a step that is refused whatever the room counts as one byte.
-//! With each room the places 0, 1, the room, one more than the room.
+//! With each room the places 0, 1, the room, one more than the room, 2^64 - 1.
 
 use reference::refusal::{Refusal, ACCEPTED, NO_ROOM, UNSOUND};
 use reference::{
@@ -452,8 +452,9 @@ fn heads() -> String {
         &|out, at| write_listing_line(10, 41, FULL_WEIGHT, out, at),
         &|out, at| write_listing_line(65_535, 9, DEBT_LIMIT, out, at),
         &|out, at| {
-            let to = out.get_mut(at..at + refused.len()).ok_or(NO_ROOM)?;
-            to.copy_from_slice(&refused);
+            let rest = out.get_mut(at..).ok_or(NO_ROOM)?;
+            let line = rest.get_mut(..refused.len()).ok_or(NO_ROOM)?;
+            line.copy_from_slice(&refused);
             Ok(refused.len())
         },
     ];
@@ -471,7 +472,7 @@ type Writer<'a> = &'a dyn Fn(&mut [u8], usize) -> Result<usize, Refusal>;
 fn edges(lines: &mut Lines, name: u16, write: Writer) {
     let length = write(&mut [0; 40], 0).unwrap_or(1);
     for room in [0, length - 1, length, length + 1, 40] {
-        for place in [0, 1, room, room + 1] {
+        for place in [0, 1, room, room + 1, usize::MAX] {
             let mut bytes = [46; 40];
             let (refusal, count) = parted(write(&mut bytes[..room], place));
             let checksum = (1..).zip(bytes).map(|(i, byte)| i * u64::from(byte)).sum();
