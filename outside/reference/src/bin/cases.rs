@@ -1,11 +1,14 @@
-//! Prints what the calls answer on boards that no script reaches, one line a
-//! board, so that another program can print the same tables and be compared.
+//! Prints what the calls answer where no script reaches, one line a board or a
+//! call, so that another program can print the same tables and be compared.
 //!
 //! `cases [table]`, where the table is `damaged` (the default), `balanced`,
-//! `suspended` or `limits`. Lines end with byte 10, columns are decimal
-//! numbers parted by one tab, there is no heading. The first column is the
-//! index of the board, from 0 on in the order below. Ranges written a..=b
-//! include b. Every call gets a copy of the board.
+//! `suspended`, `limits`, `runs`, `writes` or `heads`. Lines end with byte 10,
+//! columns are decimal numbers parted by one tab, there is no heading. The
+//! first column is the index of the board or the call, from 0 on in the order
+//! below. Ranges written a..=b include b. Every call gets a copy of the board.
+//!
+//! `cases boards` prints the first four tables in this order, and `cases calls`
+//! the last three, each behind a line with its name.
 //!
 //! # damaged, balanced, suspended
 //!
@@ -78,28 +81,97 @@
 //!   debt 2
 //! - 16: R(1) with the request in slot 0 from 1 instead, debt 2
 //! - 17: R(1) with slot 0 empty, debt 2
+//!
+//! # runs
+//!
+//! The run over the first steps of the list start 0, kind 8, send 0 1 0, kind
+//! 65535, whose other fields are 0. The buffer is the first part of five
+//! entries that all are 99 before the run.
+//!
+//! Columns:
+//! 1. index
+//! 2. sound: 1 or 0
+//! 3. length of the list
+//! 4. length of the buffer
+//! 5. refusal of the run, 0 where it is not refused
+//! 6. zeros that the run gives, 0 where it is refused
+//! 7. to 11. the five entries after the run
+//! 12. the debt after the run
+//!
+//! Boards: opened with M = 2, d = 1, parents 0; then the same with debt 1,
+//! which is not sound. On each the list lengths 0..=4, with each of them the
+//! buffer lengths 0..=5.
+//!
+//! # writes, heads
+//!
+//! A writer gets the first bytes of 40 that all are 46, the room, and a place.
+//!
+//! Columns:
+//! 1. index
+//! 2. the kind of the step; in `heads` the number of the text
+//! 3. room
+//! 4. place
+//! 5. refusal, 0 where there is none
+//! 6. the bytes written, 0 where the call is refused
+//! 7. checksum: the sum over all 40 bytes after the call of each byte times
+//!    one more than its index
+//!
+//! In `writes` the step writer, for each kind of 0..=8 and 65535 first with
+//! unit 10, other 200, slot 65535, then with these fields 0. In `heads` the
+//! writers of a listing's lines: 0 the heading; the lines 1 (number 0, answer
+//! 0, debt 0), 2 (10, 41, 2^24), 3 (65535, 9, 2^40); 4 the line of a script
+//! whose first line is missing.
+//!
+//! For each the rooms 0, one byte less than the line has, as many as it has,
+//! one more, 40; a step that is refused whatever the room counts as one byte.
+//! With each room the places 0, 1, the room, one more than the room, 2^64 - 1.
 
-use reference::refusal::UNSOUND;
-use reference::{Board, Kind, Slot, State, Step, Unit, DEBT_LIMIT, FULL_WEIGHT};
+use reference::refusal::{Refusal, ACCEPTED, NO_ROOM, UNSOUND};
+use reference::{
+    list, write_heading, write_listing_line, write_step, Board, Kind, Slot, State, Step, Unit,
+    DEBT_LIMIT, FULL_WEIGHT, HEADING,
+};
 use std::io::{self, Write};
 use std::process::ExitCode;
 
+const BOARDS: [&str; 4] = ["damaged", "balanced", "suspended", "limits"];
+const CALLS: [&str; 3] = ["runs", "writes", "heads"];
+
 fn main() -> ExitCode {
-    let table = std::env::args().nth(1).unwrap_or("damaged".to_string());
-    let lines = match table.as_str() {
-        "damaged" => damaged(&working_base(), false),
-        "balanced" => damaged(&working_base(), true),
-        "suspended" => damaged(&suspended_base(), true),
-        "limits" => limits(),
-        _ => {
-            eprintln!("usage: cases [damaged | balanced | suspended | limits]");
-            return ExitCode::FAILURE;
-        }
+    let word = std::env::args().nth(1).unwrap_or("damaged".to_string());
+    let lines = match word.as_str() {
+        "boards" => named(&BOARDS),
+        "calls" => named(&CALLS),
+        name => table(name),
+    };
+    let Some(lines) = lines else {
+        let tables = [&BOARDS[..], &CALLS].concat().join(" | ");
+        eprintln!("usage: cases [{tables} | boards | calls]");
+        return ExitCode::FAILURE;
     };
     match io::stdout().lock().write_all(lines.as_bytes()) {
         Ok(()) => ExitCode::SUCCESS,
         Err(_) => ExitCode::FAILURE,
     }
+}
+
+fn table(name: &str) -> Option<String> {
+    match name {
+        "damaged" => Some(damaged(&working_base(), false)),
+        "balanced" => Some(damaged(&working_base(), true)),
+        "suspended" => Some(damaged(&suspended_base(), true)),
+        "limits" => Some(limits()),
+        "runs" => Some(runs()),
+        "writes" => Some(writes()),
+        "heads" => Some(heads()),
+        _ => None,
+    }
+}
+
+/// Tables one after the other, each behind its name.
+fn named(names: &[&str]) -> Option<String> {
+    let part = |name: &&str| Some(format!("{name}\n{}", table(name)?));
+    names.iter().map(part).collect()
 }
 
 fn opened(steps: impl IntoIterator<Item = Step>) -> Board {
@@ -324,4 +396,120 @@ fn limits() -> String {
         lines += &format!("{index}\t{sound}\t{finished}\t{answer}\t{debt}\n");
     }
     lines
+}
+
+fn runs() -> String {
+    let odd = |kind| Step {
+        kind,
+        ..Step::default()
+    };
+    let steps = [Step::start(0), odd(8), Step::send(0, 1, 0), odd(65_535)];
+    let (sound, answer) = Board::open(2, 1, &[0]);
+    assert_eq!(answer, ACCEPTED);
+    let mut unsound = sound.clone();
+    unsound.debt = 1;
+
+    let mut lines = Lines::default();
+    for before in [sound, unsound] {
+        for count in 0..=4 {
+            for room in 0..=5 {
+                let mut board = before.clone();
+                let mut buffer = [99; 5];
+                let outcome = board.run(&steps[..count], &mut buffer[..room]);
+                let (refusal, zeros) = parted(outcome);
+                let sound = u64::from(before.is_sound());
+                let mut cells = vec![sound, count as u64, room as u64, refusal, zeros];
+                cells.extend(buffer.map(u64::from));
+                cells.push(board.debt);
+                lines.push(&cells);
+            }
+        }
+    }
+    lines.text
+}
+
+fn writes() -> String {
+    let mut lines = Lines::default();
+    for kind in (0..=8).chain([65_535]) {
+        for [unit, other, slot] in [[10, 200, 65_535], [0; 3]] {
+            let step = Step {
+                kind,
+                unit,
+                other,
+                slot,
+            };
+            edges(&mut lines, kind, &|out, at| write_step(step, out, at));
+        }
+    }
+    lines.text
+}
+
+fn heads() -> String {
+    let refused = list(b"").split_off(HEADING.len());
+    let writers: [Writer; 5] = [
+        &write_heading,
+        &|out, at| write_listing_line(0, 0, 0, out, at),
+        &|out, at| write_listing_line(10, 41, FULL_WEIGHT, out, at),
+        &|out, at| write_listing_line(65_535, 9, DEBT_LIMIT, out, at),
+        &|out, at| {
+            let rest = out.get_mut(at..).ok_or(NO_ROOM)?;
+            let line = rest.get_mut(..refused.len()).ok_or(NO_ROOM)?;
+            line.copy_from_slice(&refused);
+            Ok(refused.len())
+        },
+    ];
+    let mut lines = Lines::default();
+    for (number, writer) in (0..).zip(writers) {
+        edges(&mut lines, number, writer);
+    }
+    lines.text
+}
+
+/// Writes one line at a place, and gives the number of bytes written.
+type Writer<'a> = &'a dyn Fn(&mut [u8], usize) -> Result<usize, Refusal>;
+
+/// The lines of one writer, around the edges of its room.
+fn edges(lines: &mut Lines, name: u16, write: Writer) {
+    let length = write(&mut [0; 40], 0).unwrap_or(1);
+    for room in [0, length - 1, length, length + 1, 40] {
+        for place in [0, 1, room, room + 1, usize::MAX] {
+            let mut bytes = [46; 40];
+            let (refusal, count) = parted(write(&mut bytes[..room], place));
+            let checksum = (1..).zip(bytes).map(|(i, byte)| i * u64::from(byte)).sum();
+            lines.push(&[
+                u64::from(name),
+                room as u64,
+                place as u64,
+                refusal,
+                count,
+                checksum,
+            ]);
+        }
+    }
+}
+
+/// The refusal and the count of a call, 0 where there is none.
+fn parted(outcome: Result<usize, Refusal>) -> (u64, u64) {
+    match outcome {
+        Ok(count) => (u64::from(ACCEPTED), count as u64),
+        Err(refusal) => (u64::from(refusal), 0),
+    }
+}
+
+/// Lines of cells, each behind its index.
+#[derive(Default)]
+struct Lines {
+    count: u64,
+    text: String,
+}
+
+impl Lines {
+    fn push(&mut self, cells: &[u64]) {
+        self.text += &self.count.to_string();
+        for cell in cells {
+            self.text += &format!("\t{cell}");
+        }
+        self.text.push('\n');
+        self.count += 1;
+    }
 }

@@ -1,0 +1,33 @@
+-- The measure is the number of runs that are left.
+use Prim.Native.Nat.{_≤_, _-_}
+use borrow.Author.Needs.{needs}
+use Rattle.case_calls.proofs.runs_table.Statement.{statement}
+use Rattle.case_calls.proofs.runs_table.Tie as tie
+
+abbrev Inv-loop : tie.InvT-loop
+Inv-loop k₀ k = k ≤ 60
+
+abbrev μ-loop : tie.MeasureT-loop
+μ-loop k₀ k = 60 - k
+
+loop-holds : tie.Need-loop-holds Inv-loop μ-loop
+loop-holds c = search needs
+
+row-requires : tie.Need-row-requires Inv-loop μ-loop
+row-requires c κs = search needs
+
+add-k : tie.Need-add-k Inv-loop μ-loop
+add-k c = search needs
+
+loop-less : tie.Need-loop-less Inv-loop μ-loop
+loop-less c = search needs
+
+loop-again : tie.Need-loop-again Inv-loop μ-loop
+loop-again c = search needs
+
+returns : tie.Need-returns Inv-loop μ-loop
+returns c = search needs
+
+pub runs-table-spec : {M : Type 1} → statement M
+runs-table-spec =
+    tie.close (tie.spec Inv-loop μ-loop loop-holds row-requires add-k loop-less loop-again returns)

@@ -1,0 +1,33 @@
+-- The measure is the number of calls that are left.
+use Prim.Native.Nat.{_≤_, _-_}
+use borrow.Author.Needs.{needs}
+use Rattle.case_calls.proofs.writers_table.Statement.{statement}
+use Rattle.case_calls.proofs.writers_table.Tie as tie
+
+abbrev Inv-loop : tie.InvT-loop
+Inv-loop first calls k₀ k = k ≤ calls
+
+abbrev μ-loop : tie.MeasureT-loop
+μ-loop first calls k₀ k = calls - k
+
+loop-holds : tie.Need-loop-holds Inv-loop μ-loop
+loop-holds c = search needs
+
+row-requires : tie.Need-row-requires Inv-loop μ-loop
+row-requires c κs = search needs
+
+add-k : tie.Need-add-k Inv-loop μ-loop
+add-k c = search needs
+
+loop-less : tie.Need-loop-less Inv-loop μ-loop
+loop-less c = search needs
+
+loop-again : tie.Need-loop-again Inv-loop μ-loop
+loop-again c = search needs
+
+returns : tie.Need-returns Inv-loop μ-loop
+returns c = search needs
+
+pub writers-table-spec : {M : Type 1} → statement M
+writers-table-spec =
+    tie.close (tie.spec Inv-loop μ-loop loop-holds row-requires add-k loop-less loop-again returns)

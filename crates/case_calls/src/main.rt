@@ -1,0 +1,36 @@
+// What the run and the writers answer where no script reaches: short buffers, kinds that no step has, and little room for a line.
+mod edges;
+mod runs;
+mod writers;
+
+use casetext::text;
+
+// Two boards, five lengths of the list, six of the buffer.
+const RUNS: usize = 60;
+
+// Twenty writers of a step and five of a listing's lines, 25 calls each.
+const WRITES: usize = 500;
+
+const HEADS: usize = 125;
+
+fn runs_table() {
+    for k in 0..RUNS {
+        runs::row(k);
+    }
+}
+
+// So many calls of the writers from the first on.
+fn writers_table(first: usize, calls: usize) {
+    for k in 0..calls {
+        edges::row(k, first);
+    }
+}
+
+fn main() {
+    text(b"runs\n");
+    runs_table();
+    text(b"writes\n");
+    writers_table(0, WRITES);
+    text(b"heads\n");
+    writers_table(writers::STEPS, HEADS);
+}
