@@ -1,11 +1,13 @@
 /*
- * The listing of a weight board script, for callers in C.
+ * The weight board for callers in C: the listing of a script, and a step as a line of a script.
  *
  * Link libayokwelifu.a. Each function is proved to end and to touch nothing but what is lent to it. It returns 0, or
- * the number that refuses the call; a refusal leaves the buffer and the count as they were.
+ * the number that refuses the call; a refusal leaves buffers and cells as they were. The numbers are explained in
+ * README.md. No function keeps a pointer, allocates memory or uses global state, so calls from several threads
+ * need no lock as long as what they lend is their own.
  *
- * A pointer must point to as many bytes as the length behind it says; a length may be 0. The buffer and the count must
- * not overlap the script or each other.
+ * A pointer must point to as many bytes as the length behind it says; a length may be 0, but the pointer must not be
+ * null. Buffers and cells must not overlap each other or what is read.
  */
 #ifndef AYOKWELIFU_H
 #define AYOKWELIFU_H
@@ -17,7 +19,16 @@
 extern "C" {
 #endif
 
-/* The length of the script's listing in bytes goes to *count. Returns 0: every script has a listing. */
+/* No listing is longer, in bytes: a buffer of this size takes the listing of any script. */
+#define AYOKWELIFU_LONGEST_LISTING 2424796
+
+/* No step's line is longer, in bytes, its byte 10 included. */
+#define AYOKWELIFU_LONGEST_STEP 26
+
+/*
+ * The length of the script's listing in bytes goes to *count. Returns 0: every script has a listing, also one that is
+ * refused.
+ */
 uint16_t ayokwelifu_listing_length(const uint8_t *script, size_t script_length, uint64_t *count);
 
 /*
@@ -25,6 +36,23 @@ uint16_t ayokwelifu_listing_length(const uint8_t *script, size_t script_length, 
  * Returns 0, or 27 where the listing does not fit in out.
  */
 uint16_t ayokwelifu_list(const uint8_t *script, size_t script_length, uint8_t *out, size_t out_length, uint64_t *count);
+
+/*
+ * A step, of the kind 1 (start) to 7 (release), goes as a line of a script to out from place at on, and the line's
+ * length, its byte 10 included, to *count; the rest of out is left as it was. Fields that the kind has no letter for
+ * are not read. Returns 0, or 16 where there is no such kind, then 27 where the line does not fit or the place is past
+ * the end of out.
+ */
+uint16_t ayokwelifu_write_step(uint16_t kind, uint16_t unit, uint16_t other, uint16_t slot, uint8_t *out,
+                               size_t out_length, size_t at, uint64_t *count);
+
+/*
+ * The step that a line says, handed over without its byte 10, goes to the four cells, with 0 in the fields that its
+ * kind has no letter for. What ayokwelifu_write_step wrote is read back as that step. Returns 0, or the number that
+ * refuses the line: 21, 22, 25 (a board line is no step), 23 or 24.
+ */
+uint16_t ayokwelifu_read_step(const uint8_t *line, size_t line_length, uint16_t *kind, uint16_t *unit,
+                              uint16_t *other, uint16_t *slot);
 
 #ifdef __cplusplus
 }

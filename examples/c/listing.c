@@ -1,31 +1,35 @@
-/* Lists a small script through the library: asks for the length, makes room, lists, prints. */
+/* Writes a small script step by step, lists it through the library, and prints the listing. */
 #include "ayokwelifu.h"
 
 #include <stdio.h>
-#include <stdlib.h>
 #include <string.h>
 
+enum { START = 1, REST = 5 };
+
+static uint8_t script[256];
+static uint8_t listing[AYOKWELIFU_LONGEST_LISTING];
+
 int main(void) {
-    const char *script = "board\t2\t1\t0\nstart\t0\nrest\t0\n";
-    const uint8_t *bytes = (const uint8_t *)script;
-    uint64_t length = 0;
+    const char *opening = "board\t2\t1\t0\n";
+    size_t length = strlen(opening);
     uint64_t count = 0;
 
-    if (ayokwelifu_listing_length(bytes, strlen(script), &length) != 0) {
+    memcpy(script, opening, length);
+    if (ayokwelifu_write_step(START, 0, 0, 0, script, sizeof script, length, &count) != 0) {
         return 1;
     }
-    uint8_t *out = malloc(length);
-    if (out == NULL) {
+    length += count;
+    if (ayokwelifu_write_step(REST, 0, 0, 0, script, sizeof script, length, &count) != 0) {
         return 1;
     }
-    /* One byte too few: refused by 27, and count stays as it was. */
-    if (ayokwelifu_list(bytes, strlen(script), out, length - 1, &count) != 27 || count != 0) {
+    length += count;
+
+    /* A buffer that is too short is refused by 27 and stays as it was, and so does the count. */
+    if (ayokwelifu_list(script, length, listing, 1, &count) != 27 || listing[0] != 0) {
         return 1;
     }
-    if (ayokwelifu_list(bytes, strlen(script), out, length, &count) != 0 || count != length) {
+    if (ayokwelifu_list(script, length, listing, sizeof listing, &count) != 0) {
         return 1;
     }
-    fwrite(out, 1, count, stdout);
-    free(out);
-    return 0;
+    return fwrite(listing, 1, count, stdout) == count ? 0 : 1;
 }

@@ -1,7 +1,8 @@
-//! Compares the proved library with the reference, listing for listing, over generated scripts.
+//! Compares the proved library with the reference, listing for listing and line for line, over generated scripts.
 //!
 //! `compare SCRIPTS [SEED]`: as many scripts as asked for. The seed is printed; a difference prints the script and ends the run.
 
+use reference::Record;
 use std::process::ExitCode;
 
 const SEED: u64 = 20_261_115;
@@ -41,6 +42,27 @@ fn difference(script: &[u8], out: &mut Vec<u8>) -> Option<String> {
     scripts::check_listing(script, &out[..length]).err()
 }
 
+/// What is wrong with a line as the library reads it, or with the step as it writes it, if anything.
+fn line_difference(line: &[u8]) -> Option<String> {
+    let expected = match reference::read_line(line, false) {
+        Ok(Record::Step(step)) => Ok(step),
+        Ok(Record::Board { .. }) => Err(reference::refusal::BOARD_MISPLACED),
+        Err(number) => Err(number),
+    };
+    let step = compare::read_step(line);
+    if step != expected {
+        return Some(format!("line {:?} is read as {step:?}, not {expected:?}", String::from_utf8_lossy(line)));
+    }
+    let step = step.ok()?;
+    let (mut written, mut wanted) = ([0; 32], [0; 32]);
+    let (count, length) = (compare::write_step(step, &mut written, 1), reference::write_step(step, &mut wanted, 1));
+    if count != length || written != wanted {
+        return Some(format!("{step:?} is written as {count:?}, {written:?}, not {length:?}, {wanted:?}"));
+    }
+    let back = compare::read_step(&written[1..length.ok()?]);
+    (back != Ok(step)).then(|| format!("{step:?} is read back as {back:?}"))
+}
+
 fn main() -> ExitCode {
     let mut arguments = std::env::args().skip(1);
     let count: u64 = arguments.next().and_then(|word| word.parse().ok()).unwrap_or(20_000);
@@ -50,7 +72,8 @@ fn main() -> ExitCode {
     let mut bytes = 0u64;
     for index in 0..count {
         let script = scripts::script(seed, index);
-        if let Some(what) = difference(&script, &mut out) {
+        let lines = || reference::script_lines(&script).find_map(line_difference);
+        if let Some(what) = difference(&script, &mut out).or_else(lines) {
             println!("compare: script {index} of seed {seed}: {what}");
             println!("--- script\n{}", String::from_utf8_lossy(&script));
             return ExitCode::FAILURE;

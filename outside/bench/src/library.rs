@@ -1,0 +1,58 @@
+//! The proved loops over the public functions, as Rust sees them. Each opens a board whose units form a binary tree,
+//! runs a list of steps on it and gives how many were accepted.
+
+use crate::lists::Case;
+use reference::Step;
+
+/// The record that a lent list holds: four numbers of 16 bits, in this order.
+#[repr(C)]
+#[derive(Clone, Copy)]
+pub struct Record {
+    kind: u16,
+    unit: u16,
+    other: u16,
+    slot: u16,
+}
+
+impl Record {
+    pub fn of(step: &Step) -> Record {
+        Record { kind: step.kind, unit: step.unit, other: step.other, slot: step.slot }
+    }
+}
+
+extern "C" {
+    fn bench_steps(n: u16, m: u16, d: u16, list: *const u16, length: usize) -> u64;
+    fn bench_batches(n: u16, m: u16, d: u16, list: *const u16, length: usize) -> u64;
+    fn bench_soundness(n: u16, m: u16, d: u16, list: *const u16, length: usize, delays: *const u16, tests: usize) -> u64;
+    fn bench_lent(n: u16, m: u16, d: u16, steps: *const Record, length: usize) -> u64;
+    fn bench_run(n: u16, m: u16, d: u16, steps: *const Record, length: usize, answers: *mut u16, room: usize) -> u64;
+}
+
+// SAFETY, of all five: the pointers and lengths are those of live slices, and a buffer is borrowed for its call alone.
+
+/// The public step, by value, on each record.
+pub fn by_value(case: &mut Case) -> u64 {
+    unsafe { bench_steps(case.n, case.m, case.d, case.flat.as_ptr(), case.flat.len()) }
+}
+
+/// The public step on a lent board, on each record.
+pub fn lent(case: &mut Case) -> u64 {
+    unsafe { bench_lent(case.n, case.m, case.d, case.records.as_ptr(), case.records.len()) }
+}
+
+/// The run over the lent list.
+pub fn run(case: &mut Case) -> u64 {
+    let (steps, answers) = (&case.records, &mut case.answers);
+    unsafe { bench_run(case.n, case.m, case.d, steps.as_ptr(), steps.len(), answers.as_mut_ptr(), answers.len()) }
+}
+
+/// Batches of 64 records.
+pub fn batches(case: &mut Case) -> u64 {
+    unsafe { bench_batches(case.n, case.m, case.d, case.flat.as_ptr(), case.flat.len()) }
+}
+
+/// The soundness test alone, on the board after the list, once for each delay.
+pub fn soundness(case: &mut Case) -> u64 {
+    let (list, delays) = (&case.flat, &case.delays);
+    unsafe { bench_soundness(case.n, case.m, case.d, list.as_ptr(), list.len(), delays.as_ptr(), delays.len()) }
+}

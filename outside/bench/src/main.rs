@@ -1,0 +1,143 @@
+//! Times the proved code beside plain Rust, in one run: `bench PROGRAM PLAIN`, where the two are the programs to compare.
+//! `bench once WHAT UNITS SLOTS STEPS` does one piece of work once, for a count of its instructions.
+
+mod library;
+mod lists;
+mod plain;
+mod timing;
+
+use lists::Case;
+use std::fs::File;
+use std::process::{Command, ExitCode, Stdio};
+use timing::beside;
+
+type Work = fn(&mut Case) -> u64;
+
+/// The sizes of boards: the least, a small boat's, the largest.
+const SIZES: [(u16, u16); 3] = [(1, 1), (8, 16), (64, 256)];
+
+/// The sizes of scripts in bytes.
+const SCRIPTS: [usize; 3] = [1_024, 8_192, 65_535];
+
+/// The pieces of work that `once` knows by name.
+const WORKS: [(&str, Work); 8] = [
+    ("by-value", library::by_value),
+    ("lent", library::lent),
+    ("tested", plain::tested),
+    ("run", library::run),
+    ("batches", library::batches),
+    ("untested", plain::untested),
+    ("soundness", library::soundness),
+    ("plain-soundness", plain::soundness),
+];
+
+/// One line: what, for which size, nanoseconds of the proved and of the plain, the ratio. `per` items were worked off.
+fn line(what: &str, size: &str, per: usize, proved: &mut dyn FnMut() -> u64, plain: &mut dyn FnMut() -> u64) {
+    let times = beside(proved, plain);
+    let each = |time: f64| time / per as f64;
+    println!("{what:<28}{size:>16}{:>12.1}{:>12.1}{:>8.2}", each(times.proved), each(times.plain), times.ratio);
+}
+
+fn heading(text: &str) {
+    println!("\n{text}\n{:<28}{:>16}{:>12}{:>12}{:>8}", "", "", "proved ns", "plain ns", "ratio");
+}
+
+fn pair(what: &str, size: &str, per: usize, mut case: (Case, Case), proved: Work, plain: Work) {
+    line(what, size, per, &mut || proved(&mut case.0), &mut || plain(&mut case.1));
+}
+
+fn steps() {
+    heading("a step with its soundness test");
+    const STEPS: usize = 4_000;
+    for (n, m) in SIZES {
+        let cases = || (Case::new(n, m, STEPS), Case::new(n, m, STEPS));
+        let size = format!("{n} and {m}");
+        pair("step, by value", &size, STEPS, cases(), library::by_value, plain::tested);
+        pair("step, lent board", &size, STEPS, cases(), library::lent, plain::tested);
+    }
+}
+
+fn soundness() {
+    heading("the soundness test alone");
+    const TESTS: usize = 10_000;
+    for (n, m) in SIZES {
+        let case = || Case::new(n, m, 1_000).with_tests(TESTS);
+        pair("soundness", &format!("{n} and {m}"), TESTS, (case(), case()), library::soundness, plain::soundness);
+    }
+}
+
+fn runs() {
+    heading("a step of a list, beside plain steps without tests");
+    let long = [1_000, 10_000, 100_000, 1_000_000].map(|length| (64, 256, length));
+    let small = [(1, 1, 100_000), (8, 16, 100_000)];
+    for (n, m, length) in long.into_iter().chain(small) {
+        let cases = || (Case::new(n, m, length), Case::new(n, m, length));
+        let size = format!("{n}, {m}, {length}");
+        pair("run", &size, length, cases(), library::run, plain::untested);
+        pair("batches", &size, length, cases(), library::batches, plain::untested);
+    }
+}
+
+fn listings() {
+    heading("the listing at once, in the process");
+    for bytes in SCRIPTS {
+        let script = lists::script(bytes);
+        let mut out = vec![0; 65_536 * 40];
+        let mut proved = || compare::list(&script, &mut out).expect("it fits") as u64;
+        let mut again = vec![0; 65_536 * 40];
+        let mut plain = || reference::list_into(&script, &mut again).expect("it fits") as u64;
+        line("listing", &format!("{bytes} bytes"), 1, &mut proved, &mut plain);
+    }
+}
+
+/// Runs a program on a script in a file; what it writes is dropped.
+fn process(program: &str, script: &str) -> u64 {
+    let input = File::open(script).expect("the script is there");
+    let status = Command::new(program).stdin(input).stdout(Stdio::null()).status().expect("the program runs");
+    u64::from(status.success())
+}
+
+fn programs(proved: &str, plain: &str) -> std::io::Result<()> {
+    heading("the program on a script, process and all");
+    for bytes in SCRIPTS {
+        let script = std::env::temp_dir().join(format!("bench-{}-{bytes}.script", std::process::id()));
+        std::fs::write(&script, lists::script(bytes))?;
+        let name = script.to_str().expect("a plain path");
+        line("program", &format!("{bytes} bytes"), 1, &mut || process(proved, name), &mut || process(plain, name));
+        std::fs::remove_file(&script)?;
+    }
+    Ok(())
+}
+
+/// One piece of work, once: as many steps, or as many tests of soundness.
+fn once(what: &str, n: u16, m: u16, count: usize) -> Option<u64> {
+    let work = WORKS.iter().find(|(name, _)| *name == what)?.1;
+    let mut case = match what {
+        "soundness" | "plain-soundness" => Case::new(n, m, 1_000).with_tests(count),
+        _ => Case::new(n, m, count),
+    };
+    Some(work(&mut case))
+}
+
+fn main() -> ExitCode {
+    let words: Vec<String> = std::env::args().skip(1).collect();
+    let words: Vec<&str> = words.iter().map(String::as_str).collect();
+    match words[..] {
+        ["once", what, n, m, count] => {
+            let numbers = (n.parse(), m.parse(), count.parse());
+            let (Ok(n), Ok(m), Ok(count)) = numbers else { return ExitCode::FAILURE };
+            once(what, n, m, count).map_or(ExitCode::FAILURE, |_| ExitCode::SUCCESS)
+        }
+        [proved, plain] => {
+            steps();
+            soundness();
+            runs();
+            listings();
+            programs(proved, plain).map_or(ExitCode::FAILURE, |()| ExitCode::SUCCESS)
+        }
+        _ => {
+            eprintln!("usage: bench PROGRAM PLAIN | bench once WHAT UNITS SLOTS STEPS");
+            ExitCode::FAILURE
+        }
+    }
+}
