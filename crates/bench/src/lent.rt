@@ -4,7 +4,6 @@ ghost use Rattle.rules.specs.Runs.{runAnswer, runBuffer};
 ghost use Rattle.bench.specs.Trees.{treeBoard};
 ghost use Rattle.bench.specs.Zeros.{zerosOf};
 use crate::trees::tree_board;
-use rules::Board;
 use rules::Ran;
 use rules::StepRecord;
 use steps::run;
@@ -22,8 +21,7 @@ fn zeros_of(ran: Ran) -> u64
 // The run over the whole list, on one lent board.
 #[no_mangle]
 pub extern "C" fn bench_run(n: u16, m: u16, d: u16, steps: &[StepRecord], answers: &mut [u16]) -> u64
-    ensures zeros { λ k. ⌜ k ≡ zerosOf (runAnswer (treeBoard n m d) (now (steps .entry)) (now (answers .entry))) ⌝ }
-    ensures buffer { λ k. ⌜ now (answers .exit) ≡ runBuffer (treeBoard n m d) (now (steps .entry)) (now (answers .entry)) ⌝ }
+    ensures { λ k. ⌜ (k ≡ zerosOf (runAnswer (treeBoard n m d) (now (steps .entry)) (now (answers .entry)))) × (now (answers .exit) ≡ runBuffer (treeBoard n m d) (now (steps .entry)) (now (answers .entry))) ⌝ }
 {
     let mut c = tree_board(n, m, d);
     let ran = run(&mut c, steps, answers);
