@@ -1,1 +1,3 @@
 pub mod TreeLaws
+pub mod RecordLaws
+pub mod WalkLaws
