@@ -14,6 +14,7 @@ use Rattle.rules.specs.Runs.{zeros}
 use Rattle.rules.specs.declared.Board.{Board}
 use Rattle.rules.specs.declared.StepRecord.{StepRecord}
 use Rattle.rules.specs.declared.Outcome.{Outcome}
+use Rattle.steps.proofs.BatchLaws.{one-at-most}
 use Rattle.bench.specs.Trees.{treeBoard}
 use Rattle.bench.specs.Records.{recordsOf, recordAt}
 use Rattle.bench.specs.Counts.{accepted, walkOf}
@@ -49,10 +50,6 @@ pub record Turn (b₀ : Board) (xs : List ℕ) (b : Board) (count i : ℕ) : Typ
 pub turn-begins : (b : Board) (xs : List ℕ) → Turn b xs b 0 0
 turn-begins b xs = record { within = omega arith; counts = omega arith; gives = walk-whole b (recordsOf xs) }
 
-pub one-at-most : (t : Bool) → oneIf t ≤ 1
-one-at-most true = omega arith
-one-at-most false = omega arith
-
 module _ {b₀ : Board} {xs : List ℕ} {b : Board} {count i : ℕ} (t : Turn b₀ xs b count i) where
   pub turn-goes : i < length xs / 4 → {o : Outcome} {k : ℕ} → o ≡ step b (recordAt xs i) → k ≡ oneIf (eqb (o .answer) 0) → Turn b₀ xs (o .board) (count + k) (i + 1)
   turn-goes l {o} {k} e f = record {
@@ -73,3 +70,7 @@ module _ {b₀ : Board} {xs : List ℕ} {b : Board} {count i : ℕ} (t : Turn b�
 pub walk-counted : (n m d : ℕ) (rs : List StepRecord) {w : Walked} {b : Board} → w ≡ walkOf b rs → b ≡ treeBoard n m d → w .count ≡ accepted n m d rs
 unfolding walkOf
 walk-counted n m d rs e f = ap (λ (x : Walked). x .count) e ∙ ap (λ (c : Board). zeros (answers c rs)) f
+
+pub walk-board : (n m d : ℕ) (rs : List StepRecord) {w : Walked} {b : Board} → w ≡ walkOf b rs → b ≡ treeBoard n m d → w .board ≡ after (treeBoard n m d) rs
+unfolding walkOf
+walk-board n m d rs e f = ap (λ (x : Walked). x .board) e ∙ ap (λ (c : Board). after c rs) f

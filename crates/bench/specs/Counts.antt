@@ -17,3 +17,20 @@ accepted n m d rs = zeros (answers (treeBoard n m d) rs)
 -- the board after a list and how many of its steps are accepted
 unfoldable pub walkOf : Board → List StepRecord → Walked
 walkOf b rs = record { board = after b rs; count = zeros (answers b rs) }
+
+-- a board with its delay set
+abbrev pub withDelay : Board → ℕ → Board
+withDelay b d = record {
+  n = b .n;
+  m = b .m;
+  delay = d;
+  debt = b .debt;
+  parents = b .parents;
+  units = b .units;
+  slots = b .slots;
+}
+
+-- with how many of the delays the board is sound
+unfoldable pub soundWith : Board → List ℕ → ℕ
+soundWith b [] = 0
+soundWith b (d ∷ ds) = oneIf (sound (withDelay b d)) + soundWith b ds

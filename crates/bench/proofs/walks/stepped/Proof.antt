@@ -6,7 +6,8 @@ use lib.ListN.{length}
 use lib.Dec.{eqb}
 use borrow.Author.Needs.{needs}
 use Rattle.rules.specs.Steps.{step}
-use Rattle.bench.proofs.WalkLaws.{Turn, turn-begins, turn-goes, turn-ends, one-at-most}
+use Rattle.steps.proofs.BatchLaws.{one-at-most}
+use Rattle.bench.proofs.WalkLaws.{Turn, turn-begins, turn-goes, turn-ends}
 use Rattle.bench.proofs.walks.stepped.Statement.{statement}
 use Rattle.bench.proofs.walks.stepped.Tie as tie
 
