@@ -1,0 +1,4 @@
+pub mod TreeLaws
+pub mod RecordLaws
+pub mod WalkLaws
+pub mod DelayLaws

@@ -1,2 +1,4 @@
 pub mod Trees
+pub mod Records
+pub mod Counts
 pub mod Zeros
