@@ -2,11 +2,14 @@
 ghost use mathlib.Core.Path.{_≡_};
 ghost use Rattle.rules.specs.Runs.{runAnswer, runBuffer};
 ghost use Rattle.bench.specs.Trees.{treeBoard};
+ghost use Rattle.bench.specs.Counts.{accepted};
 ghost use Rattle.bench.specs.Zeros.{zerosOf};
+use crate::one_if;
 use crate::trees::tree_board;
 use rules::Ran;
 use rules::StepRecord;
 use steps::run;
+use steps::step_lent;
 
 // How many steps a run accepted.
 fn zeros_of(ran: Ran) -> u64
@@ -20,10 +23,32 @@ fn zeros_of(ran: Ran) -> u64
 
 // The run over the whole list, on one lent board.
 #[no_mangle]
-pub extern "C" fn bench_run(n: u16, m: u16, d: u16, steps: &[StepRecord], answers: &mut [u16]) -> u64
+pub extern "C" fn bench_run(
+    n: u16,
+    m: u16,
+    d: u16,
+    steps: &[StepRecord],
+    answers: &mut [u16],
+) -> u64
     ensures { λ k. ⌜ (k ≡ zerosOf (runAnswer (treeBoard n m d) (now (steps .entry)) (now (answers .entry)))) × (now (answers .exit) ≡ runBuffer (treeBoard n m d) (now (steps .entry)) (now (answers .entry))) ⌝ }
 {
     let mut c = tree_board(n, m, d);
     let ran = run(&mut c, steps, answers);
     zeros_of(ran)
+}
+
+// The step by step loop, which finds its board advanced where it was.
+#[no_mangle]
+pub extern "C" fn bench_lent(n: u16, m: u16, d: u16, steps: &[StepRecord]) -> u64
+    ensures { λ k. ⌜ k ≡ accepted n m d (now (steps .entry)) ⌝ }
+{
+    let mut c = tree_board(n, m, d);
+    let mut count: u64 = 0;
+    let mut i: usize = 0;
+    while i < steps.len() {
+        let k = step_lent(&mut c, steps[i]);
+        count += one_if(k == 0);
+        i += 1;
+    }
+    count
 }

@@ -46,7 +46,7 @@ use Rattle.steps.proofs.run.Symbol.{name as #run}
 use Rattle.steps.proofs.run.Met as run-thm
 use Rattle.bench.specs.Trees.{treeBoard}
 use Rattle.bench.specs.Zeros.{zerosOf}
-use Rattle.bench.proofs.trees.tree_board as tree-board
+use Rattle.bench.proofs.TreeCall.{TreeBoard, tree-gives}
 use Rattle.bench.proofs.trees.tree_board.Symbol as tree-board-def
 use Rattle.bench.proofs.trees.tree_board.Symbol.{name as #tree-board}
 use Rattle.bench.proofs.trees.tree_board.Met as tree-board-thm
@@ -71,14 +71,11 @@ abbrev at-6 : Places (code.function .locals) → ℕ
 at-6 bs = bs .1 .1 .1 .1 .1 .1 .0
 
 module _ {M : Type 1} (𝓤 : URA M) (H : Heap 𝓤) (A : Atoms 𝓤) (mem : Memory → SProp 𝓤) (go : Routine → Fun 𝓤) where
-  abbrev TreeBoard : Contract 𝓤
-  TreeBoard = tripleOf 𝓤 H A tree-board.signature (tree-board.spec 𝓤 H A mem go)
-
   abbrev ZerosOf : Contract 𝓤
   ZerosOf = tripleOf 𝓤 H A zeros-of.signature (zeros-of.spec 𝓤 H A mem go)
 
 module _ {M : Type 1} (𝓤 : URA M) (H : Heap 𝓤) (A : Atoms 𝓤) (W : Given 𝓤 H A) (at-mem : Memory → SProp 𝓤) (go : Routine → Fun 𝓤) (κ₀ κ₁ : Lft) (q₀ q₁ : Share) (n m d : ℕ) (x-s : RefT (List StepRecord)) (x-a : RefT (List ℕ))
-    (fn : Is u16 n (vint w16 n ∷ [])) (fm′ : Is u16 m (vint w16 m ∷ [])) (fd : Is u16 d (vint w16 d ∷ [])) (room-s : Room (stepRecord .row) (length (x-s .now))) (room-a : Room u16 (length (x-a .now))) where
+    (in′ : Is u16 n (vint w16 n ∷ [])) (im : Is u16 m (vint w16 m ∷ [])) (id : Is u16 d (vint w16 d ∷ [])) (room-s : Room (stepRecord .row) (length (x-s .now))) (room-a : Room u16 (length (x-a .now))) where
   abbrev a : ℕ × (ℕ × (ℕ × (RefT (List StepRecord) × (RefT (List ℕ) × Unit {0}))))
   a = (n, (m, (d, (x-s, (x-a, tt)))))
 
@@ -105,11 +102,6 @@ module _ {M : Type 1} (𝓤 : URA M) (H : Heap 𝓤) (A : Atoms 𝓤) (W : Given
       owned ! u64 (Is u64) (number w64 .makes 𝓤 H A W) k _ ik $ move ! (1 ∷ 0 ∷ []) $ done !
 
   module _ (C : Calls 𝓤 H) (Λ : Loops 𝓤 H) (fm : FmC 𝓤 H (W .laws) C) (known-tree : Triple 𝓤 (C #tree-board) (TreeBoard 𝓤 H A at-mem go)) (known-run : Triple 𝓤 (C #run) (Run 𝓤 H A at-mem go)) (known-zeros : Triple 𝓤 (C #zeros-of) (ZerosOf 𝓤 H A at-mem go)) where
-    tree-gives : ent 𝓤 (emp 𝓤) (C #tree-board (vint w16 n ∷ vint w16 m ∷ vint w16 d ∷ []) (Answer 𝓤 H A (board .row) (λ b. b ≡ treeBoard n m d)))
-    tree-gives =
-        gives 𝓤 H A tree-board.ended (tree-board.clauses 𝓤 H A at-mem go) W ((tt, tt, tt, (n, (m, (d, tt))), (vint w16 n ∷ [], (vint w16 m ∷ [], (vint w16 d ∷ [], tt)))), tt) (λ b. b ≡ treeBoard n m d) (λ b e. id⊢ 𝓤 _)
-        fm known-tree (id⊢ 𝓤 (emp 𝓤)) (number w16 .makes 𝓤 H A W, (number w16 .makes 𝓤 H A W, (number w16 .makes 𝓤 H A W, tt))) (fn, (fm′, (fd, tt))) (id⊢ 𝓤 (emp 𝓤))
-
     zeros-gives : (e : Ran) → Is (ran .row) e (ran .vals e) → ent 𝓤 (emp 𝓤) (C #zeros-of (only (ran .vals e) ∷ []) (Answer 𝓤 H A u64 (λ k. k ≡ zerosOf e)))
     zeros-gives e ie =
         gives 𝓤 H A zeros-of.ended (zeros-of.clauses 𝓤 H A at-mem go) W ((tt, tt, tt, (e, tt), (ran .vals e, tt)), tt) (λ k. k ≡ zerosOf e) (λ k e′. id⊢ 𝓤 _)
@@ -121,14 +113,14 @@ module _ {M : Type 1} (𝓤 : URA M) (H : Heap 𝓤) (A : Atoms 𝓤) (W : Given
         qed W ((‵ (flft κ₀ q₀) ⊛ ‵ (flft κ₁ q₁) ⊛ ‵ ftrue) ∷ ‵ (owns (u16 ∷ u16 ∷ u16 ∷ ShrSlice (named 0) κ₀ (stepRecord .row) ∷ MutSlice (named 1) κ₁ u16 ∷ []) a vals) ∷ []) ∵
         enter ! C Λ code.function passed _ $
         begins ! (code.function .locals) (λ bs. params1 ! $
-        pass1 ! (init ! 1 refl (tt, record { fits = fn .1 })) $ pass1 ! (init ! 2 refl (tt, record { fits = fm′ .1 })) $ pass1 ! (init ! 3 refl (tt, record { fits = fd .1 })) $
+        pass1 ! (init ! 1 refl (tt, record { fits = in′ .1 })) $ pass1 ! (init ! 2 refl (tt, record { fits = im .1 })) $ pass1 ! (init ! 3 refl (tt, record { fits = id .1 })) $
         pass1 ! (init ! 4 refl (tt, (tt, (record { fits = room-s .0 }, tt)))) $ pass1 ! (init ! 5 refl (tt, (tt, (record { fits = room-a .0 }, tt)))) $ pass0 ! $
         -- [0 .. 11; 12 lives; 13 the tokens; 14 what the parameters own]: the tokens and the references go behind
         move ! (13 ∷ 14 ∷ []) $ split ! $ move ! (1 ∷ []) $ split ! $ move ! (1 ∷ []) $ drop ! $
         move ! (2 ∷ []) $ fsplit ! $ drop ! $ fsplit ! $ drop ! $ fsplit ! $ drop ! $ fsplit ! $ move ! (1 ∷ []) $ fsplit ! $ move ! (1 ∷ []) $ drop ! $ aside ! $ aside ! $ aside ! $ aside ! $
         -- [0 .. 11; 12 lives; 13 the answers' reference; 14 the list's; 15 the token of the answers; 16 the list's]
         -- `let mut c = tree_board(n, m, d)`
-        asks ! fm _ board (λ b. b ≡ treeBoard n m d) tree-gives (and-then ! (local-at ! 1 refl) (and-then ! (local-at ! 2 refl) (and-then ! (local-at ! 3 refl) (no-more !)))) (λ h h-is ih.
+        asks ! fm _ board (λ b. b ≡ treeBoard n m d) (tree-gives 𝓤 H A at-mem go W C fm known-tree n m d in′ im id) (and-then ! (local-at ! 1 refl) (and-then ! (local-at ! 2 refl) (and-then ! (local-at ! 3 refl) (no-more !)))) (λ h h-is ih.
         lands-at ! 8 refl (board .lawful 𝓤 H A W .typed h _ ih .0) $
         lets ! 6 refl (of-opd ! (local-at ! 8 refl)) (board .lawful 𝓤 H A W .typed h _ ih .0) $
         -- `&mut c` and `answers`
