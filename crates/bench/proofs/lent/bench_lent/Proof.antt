@@ -15,7 +15,7 @@ use base.Logic.{SProp, ent, id⊢, emp, via, fst∗}
 use base.Fml.{Lft, Share, GName, ftrue, flft, fobor}
 use prog.Memory.{Memory}
 use prog.Routine.{Routine}
-use prog.Wp.{Heap, Out, Env, Calls, Loops, Wp, WpFn, Tables, afterSeq, afterBlock, afterTurn, atReturn}
+use prog.Wp.{Heap, Out, Env, Wp, WpFn, Tables, afterSeq, afterBlock, afterTurn, atReturn}
 use ghost.Atoms.{Atoms}
 use contract.Monad.{Fun}
 use contract.Running.{givenOf, tables, tablesOf}
@@ -89,21 +89,10 @@ module _ {M : Type 1} (𝓤 : URA M) (H : Heap 𝓤) (A : Atoms 𝓤) (mem : Mem
   abbrev OneIf : Contract 𝓤
   OneIf = tripleOf 𝓤 H A one-if.signature (one-if.spec 𝓤 H A mem go)
 
-  -- that each callee meets its contract
-  record Known (C : Calls 𝓤 H) : Type 2 where
-    known-tree : Triple 𝓤 (C #tree-board) (TreeBoard 𝓤 H A mem go)
-    known-step : Triple 𝓤 (C #step-lent) (StepLent 𝓤 H A mem go)
-    known-one : Triple 𝓤 (C #one-if) OneIf
-
-module _ {M : Type 1} (𝓤 : URA M) (H : Heap 𝓤) (A : Atoms 𝓤) (W : Given 𝓤 H A) (at-mem : Memory → SProp 𝓤) (go : Routine → Fun 𝓤) (𝓣 : Tables 𝓤 H) (known : Known 𝓤 H A at-mem go (𝓣 .C)) (κ : Lft) (q : Share)
-    (n m d : ℕ) (sb so : ℕ) (sγ : GName) (rs : List StepRecord) (in′ : Is u16 n (vint w16 n ∷ [])) (im : Is u16 m (vint w16 m ∷ [])) (id : Is u16 d (vint w16 d ∷ [])) (room : Room (stepRecord .row) (length rs)) where
-  abbrev C : Calls 𝓤 H
-  C = 𝓣 .C
-
-  abbrev Λ : Loops 𝓤 H
-  Λ = 𝓣 .Λ
-
-  fm : FmC 𝓤 H (W .laws) C
+module _ {M : Type 1} (𝓤 : URA M) (H : Heap 𝓤) (A : Atoms 𝓤) (W : Given 𝓤 H A) (at-mem : Memory → SProp 𝓤) (go : Routine → Fun 𝓤) (𝓣 : Tables 𝓤 H)
+    (known-tree : Triple 𝓤 (𝓣 .C #tree-board) (TreeBoard 𝓤 H A at-mem go)) (known-step : Triple 𝓤 (𝓣 .C #step-lent) (StepLent 𝓤 H A at-mem go)) (known-one : Triple 𝓤 (𝓣 .C #one-if) (OneIf 𝓤 H A at-mem go))
+    (κ : Lft) (q : Share) (n m d : ℕ) (sb so : ℕ) (sγ : GName) (rs : List StepRecord) (in′ : Is u16 n (vint w16 n ∷ [])) (im : Is u16 m (vint w16 m ∷ [])) (id : Is u16 d (vint w16 d ∷ [])) (room : Room (stepRecord .row) (length rs)) where
+  fm : FmC 𝓤 H (W .laws) (𝓣 .C)
   fm = fmOf 𝓤 H (W .laws) 𝓣
 
   abbrev a : ℕ × (ℕ × (ℕ × (RefT (List StepRecord) × Unit {0})))
@@ -118,10 +107,10 @@ module _ {M : Type 1} (𝓤 : URA M) (H : Heap 𝓤) (A : Atoms 𝓤) (W : Given
   abbrev Post : Val → SProp 𝓤
   Post = walkOf 𝓤 H A bench-lent.ended stayed (bench-lent.clauses 𝓤 H A at-mem go) .post (((κ, tt), (q, tt), tt, a, vals), tt)
 
-  one-gives : (t : Bool) → ent 𝓤 (emp 𝓤) (C #one-if (vbool t ∷ []) (Answer 𝓤 H A u64 (λ k. k ≡ oneIf t)))
+  one-gives : (t : Bool) → ent 𝓤 (emp 𝓤) (𝓣 .C #one-if (vbool t ∷ []) (Answer 𝓤 H A u64 (λ k. k ≡ oneIf t)))
   one-gives t =
       gives 𝓤 H A one-if.ended (one-if.clauses 𝓤 H A at-mem go) W ((tt, tt, tt, (t, tt), (vbool t ∷ [], tt)), tt) (λ k. k ≡ oneIf t) (λ k e. id⊢ 𝓤 _)
-      fm (known .known-one) (id⊢ 𝓤 (emp 𝓤)) (bool-makes 𝓤 H A W, tt) (refl, tt) (id⊢ 𝓤 (emp 𝓤))
+      fm known-one (id⊢ 𝓤 (emp 𝓤)) (bool-makes 𝓤 H A W, tt) (refl, tt) (id⊢ 𝓤 (emp 𝓤))
 
   -- from what is had at exit to the end of the walk
   exits : (z : ℕ) → z ≡ accepted n m d rs → Is u64 z (vint w64 z ∷ []) → ent 𝓤 (⋆ 𝓤 H A (‵ (flft κ q) ∷ [])) (Post (vint w64 z))
@@ -152,10 +141,10 @@ module _ {M : Type 1} (𝓤 : URA M) (H : Heap 𝓤) (A : Atoms 𝓤) (W : Given
 
     -- a turn ends nearer to the end of the list, or the loop is left and the rest of the code runs
     abbrev TurnEnds : Turned h rs → Out → SProp 𝓤
-    TurnEnds s = afterTurn 𝓤 H (Below 𝓤 H A (Nearer h rs) At s) (afterBlock 𝓤 H (afterSeq 𝓤 H (Wp 𝓤 H C Λ En rest (atReturn 𝓤 H En Post)) (atReturn 𝓤 H En Post)))
+    TurnEnds s = afterTurn 𝓤 H (Below 𝓤 H A (Nearer h rs) At s) (afterBlock 𝓤 H (afterSeq 𝓤 H (Wp 𝓤 H (𝓣 .C) (𝓣 .Λ) En rest (atReturn 𝓤 H En Post)) (atReturn 𝓤 H En Post)))
 
     -- a turn, where the test holds
-    turned : (s : Turned h rs) → s .i < length rs → Turnable s → Sq W (Tested s) (runs C Λ En more (anyQ (TurnEnds s)))
+    turned : (s : Turned h rs) → s .i < length rs → Turnable s → Sq W (Tested s) (runs (𝓣 .C) (𝓣 .Λ) En more (anyQ (TurnEnds s)))
     unfolding afterTurn next
     turned s less may =
         -- `&mut c`
@@ -172,7 +161,7 @@ module _ {M : Type 1} (𝓤 : URA M) (H : Heap 𝓤) (A : Atoms 𝓤) (W : Given
         -- [the board's reference; its token; the lender's part; 0 .. 4; 6 .. 18]
         -- `let k = step_lent(&mut c, steps[i])`: the token and the reference are handed over; behind them the operands, 12 and 14, stand at 13 and 15
         move ! (1 ∷ 0 ∷ []) $
-        calls-step 𝓤 H A at-mem go W (ν ∷ []) fullShare (record { ptr = (at-5 bs, 0); name = δ; now = s .b }) (here s) ir ! fm (known .known-step) (and-then ! (local-at ! 13 refl) (and-then ! (local-at ! 15 refl) (no-more !))) (λ k c said ik.
+        calls-step 𝓤 H A at-mem go W (ν ∷ []) fullShare (record { ptr = (at-5 bs, 0); name = δ; now = s .b }) (here s) ir ! fm known-step (and-then ! (local-at ! 13 refl) (and-then ! (local-at ! 15 refl) (no-more !))) (λ k c said ik.
         -- [the last value of the board; its token; the lender's part; 0 .. 4; 6 .. 18]: the lifetime ν ends
         lands-at ! 10 refl (tt, record { fits = ik .1 }) $
         move ! (1 ∷ 2 ∷ 0 ∷ []) $ local-back ! tt board c _ ν δ refl (λ ic.
@@ -189,7 +178,7 @@ module _ {M : Type 1} (𝓤 : URA M) (H : Heap 𝓤) (A : Atoms 𝓤) (W : Given
         again ! (Nearer h rs) At s (next s less k c (said .0) (said .1) ic x x-is) (add-one-dec (length rs) (s .i) less))))))
 
     -- the end, where the test fails
-    ended : (s : Turned h rs) → length rs ≤ s .i → Sq W (Tested s) (runs C Λ En rest (atRet En Post))
+    ended : (s : Turned h rs) → length rs ≤ s .i → Sq W (Tested s) (runs (𝓣 .C) (𝓣 .Λ) En rest (atRet En Post))
     ended s all =
         lets ! 0 refl (of-opd ! (local-at ! 6 refl)) (tt, record { fits = count-short s room }) $
         -- the list's borrow is closed, and the locals are freed
@@ -197,24 +186,24 @@ module _ {M : Type 1} (𝓤 : URA M) (H : Heap 𝓤) (A : Atoms 𝓤) (W : Given
         returns ! (look ! 0 refl) $ move ! (16 ∷ []) $ frees4 ! $ frees4 ! $ frees-room ! $ frees1 ! $ frees1 ! $ frees1 ! $ frees-room ! $ frees-room ! $ frees-room ! $ frees-room ! $ frees0 ! $
         by ! (exits (s .z) (counted s all ∙ ap (λ (b : Board). zeros (answers b rs)) h-is) (refl, count-short s room))
 
-    one-turn : (s : Turned h rs) → Sq W (At s) (runs C Λ En mir-of.turn-1 (anyQ (TurnEnds s)))
+    one-turn : (s : Turned h rs) → Sq W (At s) (runs (𝓣 .C) (𝓣 .Λ) En mir-of.turn-1 (anyQ (TurnEnds s)))
     unfolding afterTurn
     one-turn s =
         lets ! 10 refl (of-opd ! (field-at ! 4 refl refl refl)) (tt, record { fits = room .0 }) $
         lets ! 11 refl (bin ! (local-at ! 7 refl) (local-at ! 10 refl) tt) (tt, tt) $
         first ! $ branches ! (local-at ! 11 refl)
-        (λ less. skips ! $ exec ! C Λ En more (anyQ (TurnEnds s)) $ turned s (ltb→lt (s .i) (length rs) less) (turnable s room (ltb→lt (s .i) (length rs) less)))
-        (λ over. jumps ! $ exec ! C Λ En rest (atRet En Post) $ ended s (nltb→le (s .i) (length rs) over))
+        (λ less. skips ! $ exec ! (𝓣 .C) (𝓣 .Λ) En more (anyQ (TurnEnds s)) $ turned s (ltb→lt (s .i) (length rs) less) (turnable s room (ltb→lt (s .i) (length rs) less)))
+        (λ over. jumps ! $ exec ! (𝓣 .C) (𝓣 .Λ) En rest (atRet En Post) $ ended s (nltb→le (s .i) (length rs) over))
 
-    looped : (s : Turned h rs) → Sq W (At s) (runs C Λ En (loop mir-of.turn-1) (anyQ (afterBlock 𝓤 H (afterSeq 𝓤 H (Wp 𝓤 H C Λ En rest (atReturn 𝓤 H En Post)) (atReturn 𝓤 H En Post)))))
+    looped : (s : Turned h rs) → Sq W (At s) (runs (𝓣 .C) (𝓣 .Λ) En (loop mir-of.turn-1) (anyQ (afterBlock 𝓤 H (afterSeq 𝓤 H (Wp 𝓤 H (𝓣 .C) (𝓣 .Λ) En rest (atReturn 𝓤 H En Post)) (atReturn 𝓤 H En Post)))))
     looped s = loops ! 𝓣 (Nearer h rs) (nearer-wf h rs) At one-turn s
 
   -- up to the loop
-  walk : ent 𝓤 (onEntry 𝓤 H A bench-lent.signature (κ, tt) (q, tt) a vals) (WpFn 𝓤 H C Λ code.function passed Post)
+  walk : ent 𝓤 (onEntry 𝓤 H A bench-lent.signature (κ, tt) (q, tt) a vals) (WpFn 𝓤 H (𝓣 .C) (𝓣 .Λ) code.function passed Post)
   unfolding start
   walk =
       qed W ((‵ (flft κ q) ⊛ ‵ ftrue) ∷ ‵ (owns (u16 ∷ u16 ∷ u16 ∷ ShrSlice (named 0) κ (stepRecord .row) ∷ []) a vals) ∷ []) ∵
-      enter ! C Λ code.function passed _ $
+      enter ! (𝓣 .C) (𝓣 .Λ) code.function passed _ $
       begins ! (code.function .locals) (λ bs. params1 ! $
       pass1 ! (init ! 1 refl (tt, record { fits = in′ .1 })) $ pass1 ! (init ! 2 refl (tt, record { fits = im .1 })) $ pass1 ! (init ! 3 refl (tt, record { fits = id .1 })) $
       pass1 ! (init ! 4 refl (tt, (tt, (record { fits = room .0 }, tt)))) $ pass0 ! $
@@ -223,7 +212,7 @@ module _ {M : Type 1} (𝓤 : URA M) (H : Heap 𝓤) (A : Atoms 𝓤) (W : Given
       looks-slice-at ! tt stepRecord rs sb so (λ q′. move ! (1 ∷ []) $ aside ! $ aside ! $
       -- [0 .. 15; 16 lives; 17 the open borrow; 18 the steps]
       -- `let mut c = tree_board(n, m, d)`
-      asks ! fm _ board (λ b. b ≡ treeBoard n m d) (tree-gives 𝓤 H A at-mem go W C fm (known .known-tree) n m d in′ im id) (and-then ! (local-at ! 1 refl) (and-then ! (local-at ! 2 refl) (and-then ! (local-at ! 3 refl) (no-more !)))) (λ h h-is ih.
+      asks ! fm _ board (λ b. b ≡ treeBoard n m d) (tree-gives 𝓤 H A at-mem go W (𝓣 .C) fm known-tree n m d in′ im id) (and-then ! (local-at ! 1 refl) (and-then ! (local-at ! 2 refl) (and-then ! (local-at ! 3 refl) (no-more !)))) (λ h h-is ih.
       lands-at ! 9 refl (board .lawful 𝓤 H A W .typed h _ ih .0) $
       lets ! 5 refl (of-opd ! (local-at ! 9 refl)) (board .lawful 𝓤 H A W .typed h _ ih .0) $
       -- `let mut count = 0`, `let mut i = 0`, and the loop
@@ -231,13 +220,13 @@ module _ {M : Type 1} (𝓤 : URA M) (H : Heap 𝓤) (A : Atoms 𝓤) (W : Given
       lets ! 7 refl (of-opd ! (lit ! tt)) (tt, record { fits = lit< tt }) $
       first ! $ blocks ! $ looped h h-is q′ bs (start h rs ih))))
 
-module _ {M : Type 1} (𝓤 : URA M) (H : Heap 𝓤) (A : Atoms 𝓤) (W : Given 𝓤 H A) (mem : Memory → SProp 𝓤) (go : Routine → Fun 𝓤) (𝓣 : Tables 𝓤 H) (known : Known 𝓤 H A mem go (𝓣 .C)) where
+module _ {M : Type 1} (𝓤 : URA M) (H : Heap 𝓤) (A : Atoms 𝓤) (W : Given 𝓤 H A) (mem : Memory → SProp 𝓤) (go : Routine → Fun 𝓤) (𝓣 : Tables 𝓤 H) (known-tree : Triple 𝓤 (𝓣 .C #tree-board) (TreeBoard 𝓤 H A mem go)) (known-step : Triple 𝓤 (𝓣 .C #step-lent) (StepLent 𝓤 H A mem go)) (known-one : Triple 𝓤 (𝓣 .C #one-if) (OneIf 𝓤 H A mem go)) where
   walks : Walks 𝓤 H A bench-lent.ended stayed (WpFn 𝓤 H (𝓣 .C) (𝓣 .Λ) code.function) (bench-lent.clauses 𝓤 H A mem go)
   walks =
       walked 𝓤 H A bench-lent.ended stayed (bench-lent.clauses 𝓤 H A mem go) (WpFn 𝓤 H (𝓣 .C) (𝓣 .Λ) code.function) (λ κs. (number w16 .vals, (number w16 .vals, (number w16 .vals, (slice-vals, tt)))))
       (λ κs. (number w16 .tells, (number w16 .tells, (number w16 .tells, (shr-slice-tells (named 0) (κs .0) (stepRecord .row), tt)))))
       (λ κs qs bounds a g are. via 𝓤 _ (fst∗ 𝓤 _ (emp 𝓤))
-      (walk 𝓤 H A W mem go 𝓣 known (κs .0) (qs .0) (a .0) (a .1 .0) (a .1 .1 .0) (a .1 .1 .1 .0 .ptr .0) (a .1 .1 .1 .0 .ptr .1) (a .1 .1 .1 .0 .name) (a .1 .1 .1 .0 .now)
+      (walk 𝓤 H A W mem go 𝓣 known-tree known-step known-one (κs .0) (qs .0) (a .0) (a .1 .0) (a .1 .1 .0) (a .1 .1 .1 .0 .ptr .0) (a .1 .1 .1 .0 .ptr .1) (a .1 .1 .1 .0 .name) (a .1 .1 .1 .0 .now)
       (are .0) (are .1 .0) (are .1 .1 .0) (are .1 .1 .1 .0 .0 .1)))
 
   meets : Meets 𝓤 H A bench-lent.signature (WpFn 𝓤 H (𝓣 .C) (𝓣 .Λ) code.function) (bench-lent.spec 𝓤 H A mem go)
@@ -253,8 +242,7 @@ unfolding code.routine tablesOf
 bench-lent-spec 𝓤 H 𝓜 𝓖 𝓡 =
     entered 𝓤 H (tripleOf 𝓤 H (𝓖 .A) bench-lent.signature (bench-lent.spec 𝓤 H (𝓖 .A) (𝓜 .mem) (𝓡 .run)))
     (tables 𝓤 H 𝓜 𝓡 code.env .C) (tables 𝓤 H 𝓜 𝓡 code.env .Λ) #bench-lent code.function (code.unfolded 𝓤 H 𝓜 𝓡)
-    (meets 𝓤 H (𝓖 .A) (givenOf 𝓤 H 𝓜 𝓖) (𝓜 .mem) (𝓡 .run) (tablesOf 𝓤 H 𝓜 (tables 𝓤 H 𝓜 𝓡 code.env)) (record {
-      known-tree = cited 𝓤 H (TreeBoard 𝓤 H (𝓖 .A) (𝓜 .mem) (𝓡 .run)) 𝓜 𝓡 code.env #tree-board tree-board-def.routine code.calls-bench·trees·tree-board (tree-board-thm.met 𝓤 H 𝓜 𝓖 𝓡);
-      known-step = cited 𝓤 H (StepLent 𝓤 H (𝓖 .A) (𝓜 .mem) (𝓡 .run)) 𝓜 𝓡 code.env #step-lent step-lent-def.routine code.calls-steps·step-lent (step-lent-thm.met 𝓤 H 𝓜 𝓖 𝓡);
-      known-one = cited 𝓤 H (OneIf 𝓤 H (𝓖 .A) (𝓜 .mem) (𝓡 .run)) 𝓜 𝓡 code.env #one-if one-if-def.routine code.calls-bench·one-if (one-if-thm.met 𝓤 H 𝓜 𝓖 𝓡);
-    }))
+    (meets 𝓤 H (𝓖 .A) (givenOf 𝓤 H 𝓜 𝓖) (𝓜 .mem) (𝓡 .run) (tablesOf 𝓤 H 𝓜 (tables 𝓤 H 𝓜 𝓡 code.env))
+    (cited 𝓤 H (TreeBoard 𝓤 H (𝓖 .A) (𝓜 .mem) (𝓡 .run)) 𝓜 𝓡 code.env #tree-board tree-board-def.routine code.calls-bench·trees·tree-board (tree-board-thm.met 𝓤 H 𝓜 𝓖 𝓡))
+    (cited 𝓤 H (StepLent 𝓤 H (𝓖 .A) (𝓜 .mem) (𝓡 .run)) 𝓜 𝓡 code.env #step-lent step-lent-def.routine code.calls-steps·step-lent (step-lent-thm.met 𝓤 H 𝓜 𝓖 𝓡))
+    (cited 𝓤 H (OneIf 𝓤 H (𝓖 .A) (𝓜 .mem) (𝓡 .run)) 𝓜 𝓡 code.env #one-if one-if-def.routine code.calls-bench·one-if (one-if-thm.met 𝓤 H 𝓜 𝓖 𝓡)))
