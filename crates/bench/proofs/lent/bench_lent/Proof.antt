@@ -18,11 +18,11 @@ use prog.Routine.{Routine}
 use prog.Wp.{Heap, Out, Env, Wp, WpFn, Tables, afterSeq, afterBlock, afterTurn, atReturn}
 use ghost.Atoms.{Atoms}
 use contract.Monad.{Fun}
-use contract.Running.{givenOf, tables, tablesOf}
+use contract.Running.{givenOf, tablesOf}
 use types.Kit.{Given, Item, ‵, _⊛_, ⋆, anyQ, atRet, runs, Sq, _$_, _∵_, !, qed, by, move, drop, split, join, fsplit, fjoin, suffices, frame, done}
 use types.Run.{look, store, init, forget, stop, from, lit, addr, of-opd, bin, and-then, no-more, assigns-last, first, branches, blocks, skips, jumps, returns, enter, params1, pass1, pass0, exec, Below, again, loops}
 use types.Share.{arr-parts}
-use sound.WpLaws.{FmC, fmOf, WpFn-mono}
+use sound.WpLaws.{FmC, fmOf}
 use denote.RattleType.{owns}
 use denote.Laws.{Is}
 use denote.Memory.{shares}
@@ -33,10 +33,10 @@ use denote.Slice.{sliceVal, slice-vals, ShrSlice, Room, shr-slice-tells}
 use denote.Index.{row, place-is, shuts-slice}
 use denote.Steps.{only, owned, nothing}
 use denote.Triple.Entry.{onEntry}
-use denote.Triple.Spec.{Meets, tripleOf}
+use denote.Triple.Spec.{tripleOf}
 use denote.Triple.Statement.{Contract, Triple}
-use denote.Triple.Table.{entered, cited}
-use denote.Triple.Walked.{says, Stays, stay-dropped, walkOf, goes-dropped, Walks, ends-at, walked, walk-meets}
+use denote.Triple.Table.{cited}
+use denote.Triple.Walked.{says, Stays, stay-dropped, walkOf, goes-dropped, ends-at}
 use denote.Exit.{yes}
 use denote.Signature.{plain, shrSliceOf}
 use Rattle.rules.specs.Facts.{oneIf}
@@ -45,7 +45,7 @@ use Rattle.rules.specs.Runs.{zeros}
 use Rattle.rules.specs.declared.Board.{Board}
 use Rattle.rules.specs.declared.StepRecord.{StepRecord}
 use Rattle.steps.specs.Turns.{noStep}
-use Rattle.steps.proofs.Walking.{number, tailOf, Places, envOf, lives, laid, begins, aside, frees1, frees4, frees-room, frees0, spelled, local-at, field-at, behind, lets, sets, lands-at, Answer, gives, asks}
+use Rattle.steps.proofs.Walking.{number, tailOf, Places, envOf, lives, laid, begins, aside, frees1, frees4, frees-room, frees0, spelled, local-at, field-at, behind, lets, sets, lands-at, Answer, gives, asks, Means, by-walk}
 use Rattle.steps.proofs.Lending.{looks-slice-at, takes-at, returns-at, lends-local, local-back}
 use Rattle.steps.proofs.PlainData.{board, stepRecord}
 use Rattle.steps.proofs.StepCall.{StepLent, calls-step}
@@ -220,29 +220,18 @@ module _ {M : Type 1} (𝓤 : URA M) (H : Heap 𝓤) (A : Atoms 𝓤) (W : Given
       lets ! 7 refl (of-opd ! (lit ! tt)) (tt, record { fits = lit< tt }) $
       first ! $ blocks ! $ looped h h-is q′ bs (start h rs ih))))
 
-module _ {M : Type 1} (𝓤 : URA M) (H : Heap 𝓤) (A : Atoms 𝓤) (W : Given 𝓤 H A) (mem : Memory → SProp 𝓤) (go : Routine → Fun 𝓤) (𝓣 : Tables 𝓤 H) (known-tree : Triple 𝓤 (𝓣 .C #tree-board) (TreeBoard 𝓤 H A mem go)) (known-step : Triple 𝓤 (𝓣 .C #step-lent) (StepLent 𝓤 H A mem go)) (known-one : Triple 𝓤 (𝓣 .C #one-if) (OneIf 𝓤 H A mem go)) where
-  walks : Walks 𝓤 H A bench-lent.ended stayed (WpFn 𝓤 H (𝓣 .C) (𝓣 .Λ) code.function) (bench-lent.clauses 𝓤 H A mem go)
-  walks =
-      walked 𝓤 H A bench-lent.ended stayed (bench-lent.clauses 𝓤 H A mem go) (WpFn 𝓤 H (𝓣 .C) (𝓣 .Λ) code.function) (λ κs. (number w16 .vals, (number w16 .vals, (number w16 .vals, (slice-vals, tt)))))
-      (λ κs. (number w16 .tells, (number w16 .tells, (number w16 .tells, (shr-slice-tells (named 0) (κs .0) (stepRecord .row), tt)))))
-      (λ κs qs bounds a g are. via 𝓤 _ (fst∗ 𝓤 _ (emp 𝓤))
-      (walk 𝓤 H A W mem go 𝓣 known-tree known-step known-one (κs .0) (qs .0) (a .0) (a .1 .0) (a .1 .1 .0) (a .1 .1 .1 .0 .ptr .0) (a .1 .1 .1 .0 .ptr .1) (a .1 .1 .1 .0 .name) (a .1 .1 .1 .0 .now)
-      (are .0) (are .1 .0) (are .1 .1 .0) (are .1 .1 .1 .0 .0 .1)))
-
-  meets : Meets 𝓤 H A bench-lent.signature (WpFn 𝓤 H (𝓣 .C) (𝓣 .Λ) code.function) (bench-lent.spec 𝓤 H A mem go)
-  meets =
-      walk-meets 𝓤 H A bench-lent.ended stayed W (
-        goes-dropped 𝓤 H A W 1 (plain (λ _. u16)) yes (λ κs x f. refl),
-        (goes-dropped 𝓤 H A W 1 (plain (λ _. u16)) yes (λ κs x f. refl), (goes-dropped 𝓤 H A W 1 (plain (λ _. u16)) yes (λ κs x f. refl), (goes-dropped 𝓤 H A W 1 (shrSliceOf (0 ∷ []) tt (plain (λ _. stepRecord .row))) yes (λ κs x f. refl), tt))),
-      )
-      (bench-lent.clauses 𝓤 H A mem go) (WpFn 𝓤 H (𝓣 .C) (𝓣 .Λ) code.function) (WpFn-mono 𝓤 H (W .laws) 𝓣 code.function) walks
-
 pub bench-lent-spec : {M : Type 1} → stated.statement M
 unfolding code.routine tablesOf
 bench-lent-spec 𝓤 H 𝓜 𝓖 𝓡 =
-    entered 𝓤 H (tripleOf 𝓤 H (𝓖 .A) bench-lent.signature (bench-lent.spec 𝓤 H (𝓖 .A) (𝓜 .mem) (𝓡 .run)))
-    (tables 𝓤 H 𝓜 𝓡 code.env .C) (tables 𝓤 H 𝓜 𝓡 code.env .Λ) #bench-lent code.function (code.unfolded 𝓤 H 𝓜 𝓡)
-    (meets 𝓤 H (𝓖 .A) (givenOf 𝓤 H 𝓜 𝓖) (𝓜 .mem) (𝓡 .run) (tablesOf 𝓤 H 𝓜 (tables 𝓤 H 𝓜 𝓡 code.env))
+    let W = givenOf 𝓤 H 𝓜 𝓖 in
+    by-walk 𝓤 H 𝓜 𝓡 code.env 𝓖 bench-lent.ended (bench-lent.clauses 𝓤 H (𝓖 .A) (𝓜 .mem) (𝓡 .run)) stayed (
+      goes-dropped 𝓤 H (𝓖 .A) W 1 (plain (λ _. u16)) yes (λ κs x f. refl),
+      (goes-dropped 𝓤 H (𝓖 .A) W 1 (plain (λ _. u16)) yes (λ κs x f. refl), (goes-dropped 𝓤 H (𝓖 .A) W 1 (plain (λ _. u16)) yes (λ κs x f. refl), (goes-dropped 𝓤 H (𝓖 .A) W 1 (shrSliceOf (0 ∷ []) tt (plain (λ _. stepRecord .row))) yes (λ κs x f. refl), tt))),
+    ) #bench-lent code.function (code.unfolded 𝓤 H 𝓜 𝓡)
+    (λ κs. (number w16 .vals, (number w16 .vals, (number w16 .vals, (slice-vals, tt))))) (λ κs. (number w16 .tells, (number w16 .tells, (number w16 .tells, (shr-slice-tells (named 0) (κs .0) (stepRecord .row), tt)))))
+    (λ κs qs bounds a g are. via 𝓤 _ (fst∗ 𝓤 _ (emp 𝓤))
+    (walk 𝓤 H (𝓖 .A) W (𝓜 .mem) (𝓡 .run) (Means 𝓤 H 𝓜 𝓡 code.env)
     (cited 𝓤 H (TreeBoard 𝓤 H (𝓖 .A) (𝓜 .mem) (𝓡 .run)) 𝓜 𝓡 code.env #tree-board tree-board-def.routine code.calls-bench·trees·tree-board (tree-board-thm.met 𝓤 H 𝓜 𝓖 𝓡))
     (cited 𝓤 H (StepLent 𝓤 H (𝓖 .A) (𝓜 .mem) (𝓡 .run)) 𝓜 𝓡 code.env #step-lent step-lent-def.routine code.calls-steps·step-lent (step-lent-thm.met 𝓤 H 𝓜 𝓖 𝓡))
-    (cited 𝓤 H (OneIf 𝓤 H (𝓖 .A) (𝓜 .mem) (𝓡 .run)) 𝓜 𝓡 code.env #one-if one-if-def.routine code.calls-bench·one-if (one-if-thm.met 𝓤 H 𝓜 𝓖 𝓡)))
+    (cited 𝓤 H (OneIf 𝓤 H (𝓖 .A) (𝓜 .mem) (𝓡 .run)) 𝓜 𝓡 code.env #one-if one-if-def.routine code.calls-bench·one-if (one-if-thm.met 𝓤 H 𝓜 𝓖 𝓡))
+    (κs .0) (qs .0) (a .0) (a .1 .0) (a .1 .1 .0) (a .1 .1 .1 .0 .ptr .0) (a .1 .1 .1 .0 .ptr .1) (a .1 .1 .1 .0 .name) (a .1 .1 .1 .0 .now) (are .0) (are .1 .0) (are .1 .1 .0) (are .1 .1 .1 .0 .0 .1)))

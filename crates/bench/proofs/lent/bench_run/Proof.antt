@@ -11,14 +11,14 @@ use base.Logic.{SProp, ent, id⊢, emp, via, fst∗}
 use base.Fml.{Lft, Share, ftrue, flft}
 use prog.Memory.{Memory}
 use prog.Routine.{Routine}
-use prog.Wp.{Heap, Calls, Loops, WpFn, Tables}
+use prog.Wp.{Heap, Calls, Loops, WpFn}
 use ghost.Atoms.{Atoms}
 use contract.Monad.{Fun}
-use contract.Running.{givenOf, tables, tablesOf}
+use contract.Running.{givenOf, tablesOf}
 use types.Kit.{Given, ‵, _⊛_, ⋆, _$_, _∵_, !, qed, by, move, drop, split, join, fsplit, fjoin, suffices, frame, done}
 use types.Run.{look, init, stop, hop, fld, from, addr, of-opd, and-then, no-more, returns, enter, params1, pass1, pass0}
 use types.Part.{agg, whole, sub, look-in}
-use sound.WpLaws.{FmC, fmOf, WpFn-mono}
+use sound.WpLaws.{FmC, fmOf}
 use denote.RattleType.{owns}
 use denote.Laws.{Is}
 use denote.Builtin.{u16, u64}
@@ -26,17 +26,17 @@ use denote.Ref.{RefT}
 use denote.Slice.{sliceVal, slice-vals, ShrSlice, MutSlice, Room, finally, shr-slice-tells, mut-slice-tells}
 use denote.Steps.{only, owned, nothing}
 use denote.Triple.Entry.{onEntry}
-use denote.Triple.Spec.{Meets, tripleOf}
+use denote.Triple.Spec.{tripleOf}
 use denote.Triple.Statement.{Contract, Triple}
-use denote.Triple.Table.{entered, cited}
-use denote.Triple.Walked.{says, Stays, stay-dropped, gave-slice, walkOf, goes-dropped, goes-gave-slice, Walks, ends-at, walked, walk-meets}
+use denote.Triple.Table.{cited}
+use denote.Triple.Walked.{says, Stays, stay-dropped, gave-slice, walkOf, goes-dropped, goes-gave-slice, ends-at}
 use denote.Exit.{yes}
 use denote.Signature.{plain, shrSliceOf}
 use Rattle.rules.specs.declared.Board.{Board}
 use Rattle.rules.specs.declared.StepRecord.{StepRecord}
 use Rattle.rules.specs.declared.Ran.{Ran}
 use Rattle.steps.specs.RunMeets.{RunMeets}
-use Rattle.steps.proofs.Walking.{number, Places, begins, aside, frees4, frees0, local-at, field-at, lets, lands-at, Answer, gives, asks}
+use Rattle.steps.proofs.Walking.{number, Places, begins, aside, frees4, frees0, local-at, field-at, lets, lands-at, Answer, gives, asks, Means, by-walk}
 use Rattle.steps.proofs.Lending.{lends-local, local-back}
 use Rattle.steps.proofs.PlainData.{board, stepRecord, ran}
 use Rattle.steps.proofs.RunCall.{Run, calls-run}
@@ -143,32 +143,22 @@ module _ {M : Type 1} (𝓤 : URA M) (H : Heap 𝓤) (A : Atoms 𝓤) (W : Given
         lands-at ! 0 refl (tt, record { fits = ik .1 }) $
         returns ! (look ! 0 refl) $ move ! (12 ∷ []) $ frees4 ! $ frees4 ! $ frees4 ! $ frees0 ! $ by ! (exits h c e ks k h-is (said .0) (said .1) k-is ik)))))))
 
-module _ {M : Type 1} (𝓤 : URA M) (H : Heap 𝓤) (A : Atoms 𝓤) (W : Given 𝓤 H A) (mem : Memory → SProp 𝓤) (go : Routine → Fun 𝓤) (𝓣 : Tables 𝓤 H) (known-tree : Triple 𝓤 (𝓣 .C #tree-board) (TreeBoard 𝓤 H A mem go)) (known-run : Triple 𝓤 (𝓣 .C #run) (Run 𝓤 H A mem go)) (known-zeros : Triple 𝓤 (𝓣 .C #zeros-of) (ZerosOf 𝓤 H A mem go)) where
-  walks : Walks 𝓤 H A bench-run.ended stayed (WpFn 𝓤 H (𝓣 .C) (𝓣 .Λ) code.function) (bench-run.clauses 𝓤 H A mem go)
-  walks =
-      walked 𝓤 H A bench-run.ended stayed (bench-run.clauses 𝓤 H A mem go) (WpFn 𝓤 H (𝓣 .C) (𝓣 .Λ) code.function) (λ κs. (number w16 .vals, (number w16 .vals, (number w16 .vals, (slice-vals, (slice-vals, tt))))))
-      (λ κs. (number w16 .tells, (number w16 .tells, (number w16 .tells, (shr-slice-tells (named 0) (κs .0) (stepRecord .row), (mut-slice-tells (named 1) (κs .1 .0) u16, tt))))))
-      (λ κs qs bounds a g are. via 𝓤 _ (fst∗ 𝓤 _ (emp 𝓤))
-      (walk 𝓤 H A W mem go (κs .0) (κs .1 .0) (qs .0) (qs .1 .0) (a .0) (a .1 .0) (a .1 .1 .0) (a .1 .1 .1 .0) (a .1 .1 .1 .1 .0)
-      (are .0) (are .1 .0) (are .1 .1 .0) (are .1 .1 .1 .0 .0 .1) (are .1 .1 .1 .1 .0 .0 .1) (𝓣 .C) (𝓣 .Λ) (fmOf 𝓤 H (W .laws) 𝓣) known-tree known-run known-zeros))
-
-  meets : Meets 𝓤 H A bench-run.signature (WpFn 𝓤 H (𝓣 .C) (𝓣 .Λ) code.function) (bench-run.spec 𝓤 H A mem go)
-  meets =
-      walk-meets 𝓤 H A bench-run.ended stayed W (
-        goes-dropped 𝓤 H A W 2 (plain (λ _. u16)) yes (λ κs x f. refl),
-        (
-          goes-dropped 𝓤 H A W 2 (plain (λ _. u16)) yes (λ κs x f. refl),
-          (goes-dropped 𝓤 H A W 2 (plain (λ _. u16)) yes (λ κs x f. refl), (goes-dropped 𝓤 H A W 2 (shrSliceOf (0 ∷ []) tt (plain (λ _. stepRecord .row))) yes (λ κs x f. refl), (goes-gave-slice 𝓤 H A W 2 1 tt (plain (λ _. u16)), tt))),
-        ),
-      )
-      (bench-run.clauses 𝓤 H A mem go) (WpFn 𝓤 H (𝓣 .C) (𝓣 .Λ) code.function) (WpFn-mono 𝓤 H (W .laws) 𝓣 code.function) walks
-
 pub bench-run-spec : {M : Type 1} → stated.statement M
 unfolding code.routine tablesOf
 bench-run-spec 𝓤 H 𝓜 𝓖 𝓡 =
-    entered 𝓤 H (tripleOf 𝓤 H (𝓖 .A) bench-run.signature (bench-run.spec 𝓤 H (𝓖 .A) (𝓜 .mem) (𝓡 .run)))
-    (tables 𝓤 H 𝓜 𝓡 code.env .C) (tables 𝓤 H 𝓜 𝓡 code.env .Λ) #bench-run code.function (code.unfolded 𝓤 H 𝓜 𝓡)
-    (meets 𝓤 H (𝓖 .A) (givenOf 𝓤 H 𝓜 𝓖) (𝓜 .mem) (𝓡 .run) (tablesOf 𝓤 H 𝓜 (tables 𝓤 H 𝓜 𝓡 code.env))
+    let W = givenOf 𝓤 H 𝓜 𝓖 in
+    by-walk 𝓤 H 𝓜 𝓡 code.env 𝓖 bench-run.ended (bench-run.clauses 𝓤 H (𝓖 .A) (𝓜 .mem) (𝓡 .run)) stayed (
+      goes-dropped 𝓤 H (𝓖 .A) W 2 (plain (λ _. u16)) yes (λ κs x f. refl),
+      (
+        goes-dropped 𝓤 H (𝓖 .A) W 2 (plain (λ _. u16)) yes (λ κs x f. refl),
+        (goes-dropped 𝓤 H (𝓖 .A) W 2 (plain (λ _. u16)) yes (λ κs x f. refl), (goes-dropped 𝓤 H (𝓖 .A) W 2 (shrSliceOf (0 ∷ []) tt (plain (λ _. stepRecord .row))) yes (λ κs x f. refl), (goes-gave-slice 𝓤 H (𝓖 .A) W 2 1 tt (plain (λ _. u16)), tt))),
+      ),
+    ) #bench-run code.function (code.unfolded 𝓤 H 𝓜 𝓡)
+    (λ κs. (number w16 .vals, (number w16 .vals, (number w16 .vals, (slice-vals, (slice-vals, tt))))))
+    (λ κs. (number w16 .tells, (number w16 .tells, (number w16 .tells, (shr-slice-tells (named 0) (κs .0) (stepRecord .row), (mut-slice-tells (named 1) (κs .1 .0) u16, tt))))))
+    (λ κs qs bounds a g are. via 𝓤 _ (fst∗ 𝓤 _ (emp 𝓤))
+    (walk 𝓤 H (𝓖 .A) W (𝓜 .mem) (𝓡 .run) (κs .0) (κs .1 .0) (qs .0) (qs .1 .0) (a .0) (a .1 .0) (a .1 .1 .0) (a .1 .1 .1 .0) (a .1 .1 .1 .1 .0)
+    (are .0) (are .1 .0) (are .1 .1 .0) (are .1 .1 .1 .0 .0 .1) (are .1 .1 .1 .1 .0 .0 .1) (Means 𝓤 H 𝓜 𝓡 code.env .C) (Means 𝓤 H 𝓜 𝓡 code.env .Λ) (fmOf 𝓤 H (W .laws) (Means 𝓤 H 𝓜 𝓡 code.env))
     (cited 𝓤 H (TreeBoard 𝓤 H (𝓖 .A) (𝓜 .mem) (𝓡 .run)) 𝓜 𝓡 code.env #tree-board tree-board-def.routine code.calls-bench·trees·tree-board (tree-board-thm.met 𝓤 H 𝓜 𝓖 𝓡))
     (cited 𝓤 H (Run 𝓤 H (𝓖 .A) (𝓜 .mem) (𝓡 .run)) 𝓜 𝓡 code.env #run run-def.routine code.calls-steps·run (run-thm.met 𝓤 H 𝓜 𝓖 𝓡))
-    (cited 𝓤 H (ZerosOf 𝓤 H (𝓖 .A) (𝓜 .mem) (𝓡 .run)) 𝓜 𝓡 code.env #zeros-of zeros-of-def.routine code.calls-bench·lent·zeros-of (zeros-of-thm.met 𝓤 H 𝓜 𝓖 𝓡)))
+    (cited 𝓤 H (ZerosOf 𝓤 H (𝓖 .A) (𝓜 .mem) (𝓡 .run)) 𝓜 𝓡 code.env #zeros-of zeros-of-def.routine code.calls-bench·lent·zeros-of (zeros-of-thm.met 𝓤 H 𝓜 𝓖 𝓡))))
