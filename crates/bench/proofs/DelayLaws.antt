@@ -10,13 +10,9 @@ use lib.ListN.{length, getD, drop, drop-of-length-le}
 use lib.Seq.{drop-cons}
 use Rattle.rules.specs.Facts.{oneIf}
 use Rattle.rules.specs.Sound.{sound}
-use Rattle.rules.specs.Lists.{after}
 use Rattle.rules.specs.declared.Board.{Board}
-use Rattle.rules.specs.declared.StepRecord.{StepRecord}
 use Rattle.steps.proofs.BatchLaws.{one-at-most}
-use Rattle.bench.specs.Trees.{treeBoard}
-use Rattle.bench.specs.Counts.{walkOf, withDelay, soundWith}
-use Rattle.bench.specs.declared.walks.Walked.{Walked}
+use Rattle.bench.specs.Counts.{withDelay, soundWith}
 
 -- what the delay was before does not matter
 delay-forgotten : (b : Board) (d : ℕ) (ds : List ℕ) → soundWith (withDelay b d) ds ≡ soundWith b ds

@@ -29,11 +29,11 @@ one-more : (z m : ℕ) (t : Bool) → (z + oneIf t) + m ≡ z + cond t (suc m) m
 one-more z m true = omega arith
 one-more z m false = omega arith
 
-walk-step : (b : Board) (r : StepRecord) (rs : List StepRecord) (z : ℕ) → walkFrom (step b r .board) rs (z + oneIf (eqb (step b r .answer) 0)) ≡ walkFrom b (r ∷ rs) z
+pub walk-step : (b : Board) (r : StepRecord) (rs : List StepRecord) (z : ℕ) → walkFrom (step b r .board) rs (z + oneIf (eqb (step b r .answer) 0)) ≡ walkFrom b (r ∷ rs) z
 unfolding walkFrom after answers zeros
 walk-step b r rs z = ap (λ (k : ℕ). record { board = after (step b r .board) rs; count = k }) (one-more z (zeros (answers (step b r .board) rs)) (eqb (step b r .answer) 0))
 
-walk-none : (b : Board) (z : ℕ) → walkFrom b [] z ≡ record { board = b; count = z }
+pub walk-none : (b : Board) (z : ℕ) → walkFrom b [] z ≡ record { board = b; count = z }
 unfolding walkFrom after answers zeros
 walk-none b z = ap (λ (k : ℕ). record { board = b; count = k }) (add-zero z)
 

@@ -7,6 +7,8 @@ use Rattle.rules.specs.Lists.{after, answers}
 use Rattle.rules.specs.Runs.{zeros}
 use Rattle.rules.specs.declared.Board.{Board}
 use Rattle.rules.specs.declared.StepRecord.{StepRecord}
+use Rattle.rules.specs.declared.Ran.{Ran}
+use Rattle.rules.specs.declared.Ran.the-variants.{Zeros, Refused}
 use Rattle.bench.specs.Trees.{treeBoard}
 use Rattle.bench.specs.declared.walks.Walked.{Walked}
 
@@ -17,6 +19,11 @@ accepted n m d rs = zeros (answers (treeBoard n m d) rs)
 -- the board after a list and how many of its steps are accepted
 unfoldable pub walkOf : Board → List StepRecord → Walked
 walkOf b rs = record { board = after b rs; count = zeros (answers b rs) }
+
+-- how many steps a batch accepted: none where it is refused
+abbrev pub zerosOf : Ran → ℕ
+zerosOf (Zeros n) = n
+zerosOf (Refused k) = 0
 
 -- a board with its delay set
 abbrev pub withDelay : Board → ℕ → Board

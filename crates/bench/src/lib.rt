@@ -1,10 +1,12 @@
 // Loops over the public calls on a board, for a benchmark in another language: boards hold enums, so only numbers and slices of them are passed.
+mod batches;
 mod delays;
 mod lent;
 mod records;
 mod trees;
 mod walks;
 
+use batches::batched;
 use delays::sound_count;
 use trees::tree_board;
 use walks::stepped;
@@ -31,6 +33,14 @@ pub extern "C" fn bench_steps(n: u16, m: u16, d: u16, list: &[u16]) -> u64
     ensures { λ r. ⌜ r ≡ accepted n m d (recordsOf (now (list .entry))) ⌝ }
 {
     stepped(tree_board(n, m, d), list).count
+}
+
+// The same by batches.
+#[no_mangle]
+pub extern "C" fn bench_batches(n: u16, m: u16, d: u16, list: &[u16]) -> u64
+    ensures { λ r. ⌜ r ≡ accepted n m d (recordsOf (now (list .entry))) ⌝ }
+{
+    batched(tree_board(n, m, d), list).count
 }
 
 // With how many of the delays the board after a list is sound.
