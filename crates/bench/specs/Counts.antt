@@ -20,7 +20,7 @@ accepted n m d rs = zeros (answers (treeBoard n m d) rs)
 unfoldable pub walkOf : Board → List StepRecord → Walked
 walkOf b rs = record { board = after b rs; count = zeros (answers b rs) }
 
--- how many steps a batch accepted: none where it is refused
+-- how many steps a run or a batch accepted: none where it is refused
 abbrev pub zerosOf : Ran → ℕ
 zerosOf (Zeros n) = n
 zerosOf (Refused k) = 0

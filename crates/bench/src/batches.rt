@@ -21,7 +21,7 @@ fn batch_size(left: usize) -> usize
     64
 }
 
-fn zeros_of(ran: Ran) -> u64
+pub(crate) fn zeros_of(ran: Ran) -> u64
     ensures { λ k. ⌜ k ≡ zerosOf ran ⌝ }
 {
     match ran {

@@ -2,24 +2,13 @@
 ghost use mathlib.Core.Path.{_≡_};
 ghost use Rattle.rules.specs.Runs.{runAnswer, runBuffer};
 ghost use Rattle.bench.specs.Trees.{treeBoard};
-ghost use Rattle.bench.specs.Counts.{accepted};
-ghost use Rattle.bench.specs.Zeros.{zerosOf};
+ghost use Rattle.bench.specs.Counts.{accepted, zerosOf};
+use crate::batches::zeros_of;
 use crate::one_if;
 use crate::trees::tree_board;
-use rules::Ran;
 use rules::StepRecord;
 use steps::run;
 use steps::step_lent;
-
-// How many steps a run accepted.
-fn zeros_of(ran: Ran) -> u64
-    ensures { λ k. ⌜ k ≡ zerosOf ran ⌝ }
-{
-    match ran {
-        Ran::Zeros(k) => k as u64,
-        Ran::Refused(_) => 0,
-    }
-}
 
 // The run over the whole list, on one lent board.
 #[no_mangle]

@@ -44,15 +44,15 @@ use Rattle.steps.proofs.run.Symbol as run-def
 use Rattle.steps.proofs.run.Symbol.{name as #run}
 use Rattle.steps.proofs.run.Met as run-thm
 use Rattle.bench.specs.Trees.{treeBoard}
-use Rattle.bench.specs.Zeros.{zerosOf}
+use Rattle.bench.specs.Counts.{zerosOf}
 use Rattle.bench.proofs.TreeCall.{TreeBoard, tree-gives}
 use Rattle.bench.proofs.trees.tree_board.Symbol as tree-board-def
 use Rattle.bench.proofs.trees.tree_board.Symbol.{name as #tree-board}
 use Rattle.bench.proofs.trees.tree_board.Met as tree-board-thm
-use Rattle.bench.proofs.lent.zeros_of as zeros-of
-use Rattle.bench.proofs.lent.zeros_of.Symbol as zeros-of-def
-use Rattle.bench.proofs.lent.zeros_of.Symbol.{name as #zeros-of}
-use Rattle.bench.proofs.lent.zeros_of.Met as zeros-of-thm
+use Rattle.bench.proofs.batches.zeros_of as zeros-of
+use Rattle.bench.proofs.batches.zeros_of.Symbol as zeros-of-def
+use Rattle.bench.proofs.batches.zeros_of.Symbol.{name as #zeros-of}
+use Rattle.bench.proofs.batches.zeros_of.Met as zeros-of-thm
 use Rattle.bench.proofs.lent.bench_run.Key.{name as #bench-run}
 use Rattle.bench.proofs.lent.bench_run as bench-run
 use Rattle.bench.proofs.lent.bench_run.Statement as stated
@@ -161,4 +161,4 @@ bench-run-spec 𝓤 H 𝓜 𝓖 𝓡 =
     (are .0) (are .1 .0) (are .1 .1 .0) (are .1 .1 .1 .0 .0 .1) (are .1 .1 .1 .1 .0 .0 .1) (Means 𝓤 H 𝓜 𝓡 code.env .C) (Means 𝓤 H 𝓜 𝓡 code.env .Λ) (fmOf 𝓤 H (W .laws) (Means 𝓤 H 𝓜 𝓡 code.env))
     (cited 𝓤 H (TreeBoard 𝓤 H (𝓖 .A) (𝓜 .mem) (𝓡 .run)) 𝓜 𝓡 code.env #tree-board tree-board-def.routine code.calls-bench·trees·tree-board (tree-board-thm.met 𝓤 H 𝓜 𝓖 𝓡))
     (cited 𝓤 H (Run 𝓤 H (𝓖 .A) (𝓜 .mem) (𝓡 .run)) 𝓜 𝓡 code.env #run run-def.routine code.calls-steps·run (run-thm.met 𝓤 H 𝓜 𝓖 𝓡))
-    (cited 𝓤 H (ZerosOf 𝓤 H (𝓖 .A) (𝓜 .mem) (𝓡 .run)) 𝓜 𝓡 code.env #zeros-of zeros-of-def.routine code.calls-bench·lent·zeros-of (zeros-of-thm.met 𝓤 H 𝓜 𝓖 𝓡))))
+    (cited 𝓤 H (ZerosOf 𝓤 H (𝓖 .A) (𝓜 .mem) (𝓡 .run)) 𝓜 𝓡 code.env #zeros-of zeros-of-def.routine code.calls-bench·batches·zeros-of (zeros-of-thm.met 𝓤 H 𝓜 𝓖 𝓡))))
