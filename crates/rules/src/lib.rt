@@ -47,6 +47,8 @@ pub struct Board {
 }
 
 // One step as a caller asks for it: a kind from 1 to 7, and the fields that the kind has a letter for.
+// Callers in other languages lend lists of it, so its layout is C's.
+#[repr(C)]
 pub struct StepRecord {
     pub kind: u16,
     pub unit: u16,

@@ -36,7 +36,7 @@ pub one-at-most : (t : Bool) → oneIf t ≤ 1
 one-at-most true = omega arith
 one-at-most false = omega arith
 
-one-more : (z m : ℕ) (t : Bool) → (z + oneIf t) + m ≡ z + cond t (suc m) m
+pub one-more : (z m : ℕ) (t : Bool) → (z + oneIf t) + m ≡ z + cond t (suc m) m
 one-more z m true = omega arith
 one-more z m false = omega arith
 

@@ -6,3 +6,5 @@ pub mod RunLaws
 pub mod Walking
 pub mod Lending
 pub mod PlainData
+pub mod RunCall
+pub mod StepCall

@@ -18,12 +18,12 @@ use prog.Routine.{Routine}
 use prog.Wp.{Heap, Out, Env, Calls, Loops, Wp, WpFn, Tables, afterSeq, afterBlock, afterTurn, atReturn}
 use ghost.Atoms.{Atoms}
 use contract.Monad.{Fun}
-use contract.Running.{givenOf, tables, tablesOf}
+use contract.Running.{givenOf, tablesOf}
 use types.Kit.{Given, Item, ‵, _⊛_, ⋆, anyQ, atRet, runs, Sq, _$_, _∵_, !, qed, by, move, drop, split, join, fsplit, fsplit3, fjoin, suffices, frame, done}
 use types.Run.{look, store, init, forget, stop, from, lit, of-opd, bin, and-then, no-more, assigns-last, land, first, branches, blocks, skips, jumps, returns, enter, params1, pass1, pass0, exec, Below, again, loops}
 use types.Part.{agg}
 use types.Share.{arr-parts}
-use sound.WpLaws.{FmC, fmOf, WpFn-mono}
+use sound.WpLaws.{FmC, fmOf}
 use denote.RattleType.{owns}
 use denote.Laws.{Is}
 use denote.Memory.{shares, cellAt}
@@ -33,9 +33,8 @@ use denote.Slice.{sliceVal, slice-vals, ShrSlice, MutSlice, Room, finally, shr-s
 use denote.Index.{row, place-is, shuts-slice}
 use denote.Steps.{only, owned, nothing}
 use denote.Triple.Entry.{onEntry}
-use denote.Triple.Spec.{Meets, tripleOf}
-use denote.Triple.Table.{entered, cited}
-use denote.Triple.Walked.{says, Stays, gave-ref, gave-slice, stay-dropped, walkOf, goes-gave-ref, goes-gave-slice, goes-dropped, Walks, ends-at, walked, walk-meets}
+use denote.Triple.Table.{cited}
+use denote.Triple.Walked.{says, Stays, gave-ref, gave-slice, stay-dropped, walkOf, goes-gave-ref, goes-gave-slice, goes-dropped, ends-at}
 use denote.Exit.{yes}
 use denote.Signature.{plain, shrSliceOf}
 use Rattle.rules.specs.Steps.{step}
@@ -45,7 +44,7 @@ use Rattle.rules.specs.declared.Outcome.{Outcome}
 use Rattle.rules.specs.declared.Ran.{Ran}
 use Rattle.steps.specs.Turns.{refusalOf, turnsOf, countedOf, begun, noStep, taken, counts, written, ranOf}
 use Rattle.steps.proofs.RunLaws.{run-meets}
-use Rattle.steps.proofs.Walking.{number, tailOf, Places, envOf, lives, laid, begins, aside, frees1, frees4, frees-room, frees0, spelled, local-at, field-at, behind, lets, sets, stores, lands-at, asks}
+use Rattle.steps.proofs.Walking.{number, tailOf, Places, envOf, lives, laid, begins, aside, frees1, frees4, frees-room, frees0, spelled, local-at, field-at, behind, lets, sets, stores, lands-at, asks, Means, by-walk}
 use Rattle.steps.proofs.Lending.{Opened, OpenedSlice, opens-at, closes-at, opens-slice-at, closes-slice-at, looks-slice-at, takes-at, returns-at, puts-at}
 use Rattle.steps.proofs.PlainData.{board, stepRecord, outcome, ran, answer-is, board-is}
 use Rattle.steps.proofs.lent.run_refusal.Symbol as run-refusal-def
@@ -237,30 +236,21 @@ module _ {M : Type 1} (𝓤 : URA M) (H : Heap 𝓤) (A : Atoms 𝓤) (W : Given
       lets ! 8 refl (of-opd ! (lit ! tt)) (tt, record { fits = lit< tt }) $
       first ! $ blocks ! $ looped k n k-is n-is (ik .1) q′ bs (start h rs out n ih))))))
 
-module _ {M : Type 1} (𝓤 : URA M) (H : Heap 𝓤) (A : Atoms 𝓤) (W : Given 𝓤 H A) (mem : Memory → SProp 𝓤) (go : Routine → Fun 𝓤) (𝓣 : Tables 𝓤 H) (known : Known 𝓤 H A mem go (𝓣 .C)) where
-  walks : Walks 𝓤 H A run.ended stayed (WpFn 𝓤 H (𝓣 .C) (𝓣 .Λ) code.function) (run.clauses 𝓤 H A mem go)
-  walks =
-      walked 𝓤 H A run.ended stayed (run.clauses 𝓤 H A mem go) (WpFn 𝓤 H (𝓣 .C) (𝓣 .Λ) code.function) (λ κs. (ptr-vals, (slice-vals, (slice-vals, tt))))
-      (λ κs. (mut-tells (named 0) (κs .0) (board .row), (shr-slice-tells (named 1) (κs .1 .0) (stepRecord .row), (mut-slice-tells (named 2) (κs .1 .1 .0) u16, tt))))
-      (λ κs qs bounds a g are. via 𝓤 _ (fst∗ 𝓤 _ (emp 𝓤))
-      (walk 𝓤 H A W mem go 𝓣 known (κs .0) (κs .1 .0) (κs .1 .1 .0) (qs .0) (qs .1 .0) (qs .1 .1 .0) (a .0 .ptr .0) (a .0 .ptr .1) (a .0 .name) (a .0 .now)
-      (a .1 .0 .ptr .0) (a .1 .0 .ptr .1) (a .1 .0 .name) (a .1 .0 .now) (a .1 .1 .0 .ptr .0) (a .1 .1 .0 .ptr .1) (a .1 .1 .0 .name) (a .1 .1 .0 .now) (are .1 .0 .0 .1) (are .1 .1 .0 .0 .1)))
-
-  meets : Meets 𝓤 H A run.signature (WpFn 𝓤 H (𝓣 .C) (𝓣 .Λ) code.function) (run.spec 𝓤 H A mem go)
-  meets =
-      walk-meets 𝓤 H A run.ended stayed W
-      (goes-gave-ref 𝓤 H A W 3 0 tt (plain (λ _. board .row)), (goes-dropped 𝓤 H A W 3 (shrSliceOf (1 ∷ []) tt (plain (λ _. stepRecord .row))) yes (λ κs x f. refl), (goes-gave-slice 𝓤 H A W 3 2 tt (plain (λ _. u16)), tt)))
-      (run.clauses 𝓤 H A mem go) (WpFn 𝓤 H (𝓣 .C) (𝓣 .Λ) code.function) (WpFn-mono 𝓤 H (W .laws) 𝓣 code.function) walks
-
 pub run-spec : {M : Type 1} → stated.statement M
 unfolding code.routine tablesOf
 run-spec 𝓤 H 𝓜 𝓖 𝓡 =
-    entered 𝓤 H (tripleOf 𝓤 H (𝓖 .A) run.signature (run.spec 𝓤 H (𝓖 .A) (𝓜 .mem) (𝓡 .run)))
-    (tables 𝓤 H 𝓜 𝓡 code.env .C) (tables 𝓤 H 𝓜 𝓡 code.env .Λ) #run code.function (code.unfolded 𝓤 H 𝓜 𝓡)
-    (meets 𝓤 H (𝓖 .A) (givenOf 𝓤 H 𝓜 𝓖) (𝓜 .mem) (𝓡 .run) (tablesOf 𝓤 H 𝓜 (tables 𝓤 H 𝓜 𝓡 code.env)) (record {
+    let W = givenOf 𝓤 H 𝓜 𝓖 in
+    by-walk 𝓤 H 𝓜 𝓡 code.env 𝓖 run.ended (run.clauses 𝓤 H (𝓖 .A) (𝓜 .mem) (𝓡 .run)) stayed
+    (goes-gave-ref 𝓤 H (𝓖 .A) W 3 0 tt (plain (λ _. board .row)), (goes-dropped 𝓤 H (𝓖 .A) W 3 (shrSliceOf (1 ∷ []) tt (plain (λ _. stepRecord .row))) yes (λ κs x f. refl), (goes-gave-slice 𝓤 H (𝓖 .A) W 3 2 tt (plain (λ _. u16)), tt)))
+    #run code.function (code.unfolded 𝓤 H 𝓜 𝓡) (λ κs. (ptr-vals, (slice-vals, (slice-vals, tt))))
+    (λ κs. (mut-tells (named 0) (κs .0) (board .row), (shr-slice-tells (named 1) (κs .1 .0) (stepRecord .row), (mut-slice-tells (named 2) (κs .1 .1 .0) u16, tt))))
+    (λ κs qs bounds a g are. via 𝓤 _ (fst∗ 𝓤 _ (emp 𝓤))
+    (walk 𝓤 H (𝓖 .A) W (𝓜 .mem) (𝓡 .run) (Means 𝓤 H 𝓜 𝓡 code.env) (record {
       known-refusal = cited 𝓤 H (RunRefusal 𝓤 H (𝓖 .A) (𝓜 .mem) (𝓡 .run)) 𝓜 𝓡 code.env #run-refusal run-refusal-def.routine code.calls-steps·lent·run-refusal (run-refusal-thm.met 𝓤 H 𝓜 𝓖 𝓡);
       known-turns = cited 𝓤 H (Turns 𝓤 H (𝓖 .A) (𝓜 .mem) (𝓡 .run)) 𝓜 𝓡 code.env #turns turns-def.routine code.calls-steps·lent·turns (turns-thm.met 𝓤 H 𝓜 𝓖 𝓡);
       known-step = cited 𝓤 H (SoundStep 𝓤 H (𝓖 .A) (𝓜 .mem) (𝓡 .run)) 𝓜 𝓡 code.env #sound-step sound-step-def.routine code.calls-steps·sound-step (sound-step-thm.met 𝓤 H 𝓜 𝓖 𝓡);
       known-counted = cited 𝓤 H (Counted 𝓤 H (𝓖 .A) (𝓜 .mem) (𝓡 .run)) 𝓜 𝓡 code.env #counted counted-def.routine code.calls-steps·lent·counted (counted-thm.met 𝓤 H 𝓜 𝓖 𝓡);
       known-end = cited 𝓤 H (End 𝓤 H (𝓖 .A) (𝓜 .mem) (𝓡 .run)) 𝓜 𝓡 code.env #ran ran-def.routine code.calls-steps·lent·ran (ran-thm.met 𝓤 H 𝓜 𝓖 𝓡);
-    }))
+    })
+    (κs .0) (κs .1 .0) (κs .1 .1 .0) (qs .0) (qs .1 .0) (qs .1 .1 .0) (a .0 .ptr .0) (a .0 .ptr .1) (a .0 .name) (a .0 .now)
+    (a .1 .0 .ptr .0) (a .1 .0 .ptr .1) (a .1 .0 .name) (a .1 .0 .now) (a .1 .1 .0 .ptr .0) (a .1 .1 .0 .ptr .1) (a .1 .1 .0 .name) (a .1 .1 .0 .now) (are .1 .0 .0 .1) (are .1 .1 .0 .0 .1)))

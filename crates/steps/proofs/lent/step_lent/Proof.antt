@@ -9,30 +9,30 @@ use base.Logic.{SProp, ent, id⊢, emp, via, fst∗}
 use base.Fml.{Lft, Share, GName, ftrue, flft, fres}
 use prog.Memory.{Memory}
 use prog.Routine.{Routine}
-use prog.Wp.{Heap, Calls, Loops, WpFn, Tables}
+use prog.Wp.{Heap, Calls, Loops, WpFn}
 use ghost.Atoms.{Atoms}
 use contract.Monad.{Fun}
-use contract.Running.{givenOf, tables, tablesOf}
+use contract.Running.{givenOf, tablesOf}
 use types.Kit.{Given, ‵, _⊛_, ⋆, _$_, _∵_, !, qed, by, move, drop, split, join, fsplit, fjoin, suffices, frame, done}
 use types.Run.{look, init, of-opd, and-then, no-more, returns, enter, params1, pass1, pass0}
-use sound.WpLaws.{FmC, fmOf, WpFn-mono}
+use sound.WpLaws.{FmC, fmOf}
 use denote.RattleType.{owns}
 use denote.Laws.{Is}
 use denote.Builtin.{u16}
 use denote.Ref.{RefT, MutRef, ptr-vals, mut-tells}
 use denote.Steps.{only, owned, nothing}
 use denote.Triple.Entry.{onEntry}
-use denote.Triple.Spec.{Meets, tripleOf}
+use denote.Triple.Spec.{tripleOf}
 use denote.Triple.Statement.{Contract, Triple}
-use denote.Triple.Table.{entered, cited}
-use denote.Triple.Walked.{says, Stays, gave-ref, stay-dropped, walkOf, goes-gave-ref, goes-dropped, Walks, ends-at, walked, walk-meets}
+use denote.Triple.Table.{cited}
+use denote.Triple.Walked.{says, Stays, gave-ref, stay-dropped, walkOf, goes-gave-ref, goes-dropped, ends-at}
 use denote.Exit.{yes}
 use denote.Signature.{plain}
 use Rattle.rules.specs.Steps.{step as stepOf}
 use Rattle.rules.specs.declared.Board.{Board}
 use Rattle.rules.specs.declared.StepRecord.{StepRecord}
 use Rattle.rules.specs.declared.Outcome.{Outcome}
-use Rattle.steps.proofs.Walking.{number, begins, aside, frees1, frees4, frees0, local-at, field-at, behind, lets, stores, lands-at, Answer, gives, asks}
+use Rattle.steps.proofs.Walking.{number, begins, aside, frees1, frees4, frees0, local-at, field-at, behind, lets, stores, lands-at, Answer, gives, asks, Means, by-walk}
 use Rattle.steps.proofs.Lending.{opens-at, closes-at}
 use Rattle.steps.proofs.PlainData.{board, stepRecord, outcome, answer-is, board-is}
 use Rattle.steps.proofs.step as step
@@ -101,22 +101,13 @@ module _ {M : Type 1} (𝓤 : URA M) (H : Heap 𝓤) (A : Atoms 𝓤) (W : Given
         move ! (6 ∷ 7 ∷ []) $ closes-at ! tt board h (x .board) b o (board-is x ix) $ aside ! $ aside ! $
         returns ! (look ! 0 refl) $ move ! (5 ∷ []) $ frees4 ! $ frees1 ! $ frees0 ! $ by ! (exits x e ix))))
 
-module _ {M : Type 1} (𝓤 : URA M) (H : Heap 𝓤) (A : Atoms 𝓤) (W : Given 𝓤 H A) (mem : Memory → SProp 𝓤) (run : Routine → Fun 𝓤) (𝓣 : Tables 𝓤 H) (known : Triple 𝓤 (𝓣 .C #step) (Step 𝓤 H A mem run)) where
-  walks : Walks 𝓤 H A step-lent.ended stayed (WpFn 𝓤 H (𝓣 .C) (𝓣 .Λ) code.function) (step-lent.clauses 𝓤 H A mem run)
-  walks =
-      walked 𝓤 H A step-lent.ended stayed (step-lent.clauses 𝓤 H A mem run) (WpFn 𝓤 H (𝓣 .C) (𝓣 .Λ) code.function)
-      (λ κs. (ptr-vals, (stepRecord .vals, tt))) (λ κs. (mut-tells (named 0) (κs .0) (board .row), (stepRecord .tells, tt)))
-      (λ κs qs bounds a g are. via 𝓤 _ (fst∗ 𝓤 _ (emp 𝓤)) (walk 𝓤 H A W mem run (κs .0) (qs .0) (a .0 .ptr .0) (a .0 .ptr .1) (a .0 .name) (a .0 .now) (a .1 .0) (𝓣 .C) (𝓣 .Λ) (fmOf 𝓤 H (W .laws) 𝓣) known (are .1 .0)))
-
-  meets : Meets 𝓤 H A step-lent.signature (WpFn 𝓤 H (𝓣 .C) (𝓣 .Λ) code.function) (step-lent.spec 𝓤 H A mem run)
-  meets =
-      walk-meets 𝓤 H A step-lent.ended stayed W (goes-gave-ref 𝓤 H A W 1 0 tt (plain (λ _. board .row)), (goes-dropped 𝓤 H A W 1 (plain (λ _. stepRecord .row)) yes (λ κs x f. refl), tt))
-      (step-lent.clauses 𝓤 H A mem run) (WpFn 𝓤 H (𝓣 .C) (𝓣 .Λ) code.function) (WpFn-mono 𝓤 H (W .laws) 𝓣 code.function) walks
-
 pub step-lent-spec : {M : Type 1} → stated.statement M
 unfolding code.routine tablesOf
 step-lent-spec 𝓤 H 𝓜 𝓖 𝓡 =
-    entered 𝓤 H (tripleOf 𝓤 H (𝓖 .A) step-lent.signature (step-lent.spec 𝓤 H (𝓖 .A) (𝓜 .mem) (𝓡 .run)))
-    (tables 𝓤 H 𝓜 𝓡 code.env .C) (tables 𝓤 H 𝓜 𝓡 code.env .Λ) #step-lent code.function (code.unfolded 𝓤 H 𝓜 𝓡)
-    (meets 𝓤 H (𝓖 .A) (givenOf 𝓤 H 𝓜 𝓖) (𝓜 .mem) (𝓡 .run) (tablesOf 𝓤 H 𝓜 (tables 𝓤 H 𝓜 𝓡 code.env))
-    (cited 𝓤 H (Step 𝓤 H (𝓖 .A) (𝓜 .mem) (𝓡 .run)) 𝓜 𝓡 code.env #step step-def.routine code.calls-steps·step (step-thm.met 𝓤 H 𝓜 𝓖 𝓡)))
+    let W = givenOf 𝓤 H 𝓜 𝓖 in
+    by-walk 𝓤 H 𝓜 𝓡 code.env 𝓖 step-lent.ended (step-lent.clauses 𝓤 H (𝓖 .A) (𝓜 .mem) (𝓡 .run)) stayed
+    (goes-gave-ref 𝓤 H (𝓖 .A) W 1 0 tt (plain (λ _. board .row)), (goes-dropped 𝓤 H (𝓖 .A) W 1 (plain (λ _. stepRecord .row)) yes (λ κs x f. refl), tt)) #step-lent code.function (code.unfolded 𝓤 H 𝓜 𝓡)
+    (λ κs. (ptr-vals, (stepRecord .vals, tt))) (λ κs. (mut-tells (named 0) (κs .0) (board .row), (stepRecord .tells, tt)))
+    (λ κs qs bounds a g are. via 𝓤 _ (fst∗ 𝓤 _ (emp 𝓤))
+    (walk 𝓤 H (𝓖 .A) W (𝓜 .mem) (𝓡 .run) (κs .0) (qs .0) (a .0 .ptr .0) (a .0 .ptr .1) (a .0 .name) (a .0 .now) (a .1 .0) (Means 𝓤 H 𝓜 𝓡 code.env .C) (Means 𝓤 H 𝓜 𝓡 code.env .Λ) (fmOf 𝓤 H (W .laws) (Means 𝓤 H 𝓜 𝓡 code.env))
+    (cited 𝓤 H (Step 𝓤 H (𝓖 .A) (𝓜 .mem) (𝓡 .run)) 𝓜 𝓡 code.env #step step-def.routine code.calls-steps·step (step-thm.met 𝓤 H 𝓜 𝓖 𝓡)) (are .1 .0)))
