@@ -12,10 +12,10 @@ use trees::tree_board;
 use walks::stepped;
 ghost use mathlib.Core.Path.{_≡_};
 ghost use Rattle.rules.specs.Facts.{oneIf};
-ghost use Rattle.bench.specs.Records.{recordsOf};
-ghost use Rattle.bench.specs.Counts.{accepted, soundWith};
 ghost use Rattle.rules.specs.Lists.{after};
 ghost use Rattle.bench.specs.Trees.{treeBoard};
+ghost use Rattle.bench.specs.Records.{recordsOf};
+ghost use Rattle.bench.specs.Counts.{accepted, soundWith};
 
 // What a test adds to a count.
 pub(crate) fn one_if(t: bool) -> u64
@@ -35,7 +35,7 @@ pub extern "C" fn bench_steps(n: u16, m: u16, d: u16, list: &[u16]) -> u64
     stepped(tree_board(n, m, d), list).count
 }
 
-// The same by batches.
+// The same, by the run over a batch.
 #[no_mangle]
 pub extern "C" fn bench_batches(n: u16, m: u16, d: u16, list: &[u16]) -> u64
     ensures { λ r. ⌜ r ≡ accepted n m d (recordsOf (now (list .entry))) ⌝ }
