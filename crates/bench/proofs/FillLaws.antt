@@ -7,6 +7,7 @@ use native.Mathlib.Numerals.{add-one}
 use native.Mathlib.Omega.{arith}
 use lib.ListN.{length, take, drop, set, length-set}
 use lib.Seq.{take-suc-set}
+use Rattle.rules.specs.Runs.{batchMost}
 use Rattle.rules.specs.declared.StepRecord.{StepRecord}
 use Rattle.bench.specs.Records.{recordsOf, recordAt}
 use Rattle.bench.proofs.RecordLaws.{records-here}
@@ -17,13 +18,13 @@ Filled xs from i rs = take i rs ++ recordsOf (drop (4 * (from + i)) xs) ≡ reco
 
 -- at the head of each turn, i of so many records are filled in
 pub record Turn (xs : List ℕ) (from count : ℕ) (rs : List StepRecord) (i : ℕ) : Type 0 where
-  pub few : count ≤ 64
+  pub few : count ≤ batchMost
   pub inside : from + count ≤ length xs / 4
   pub within : i ≤ count
-  pub room : length rs ≡ 64
+  pub room : length rs ≡ batchMost
   pub filled : Filled xs from i rs
 
-pub turn-begins : (xs : List ℕ) (from count : ℕ) (rs : List StepRecord) → count ≤ 64 → from + count ≤ length xs / 4 → length rs ≡ 64 → Turn xs from count rs 0
+pub turn-begins : (xs : List ℕ) (from count : ℕ) (rs : List StepRecord) → count ≤ batchMost → from + count ≤ length xs / 4 → length rs ≡ batchMost → Turn xs from count rs 0
 turn-begins xs from count rs f p l = record { few = f; inside = p; within = omega arith; room = l; filled = ap (λ (j : ℕ). recordsOf (drop (4 * j) xs)) (add-zero from) }
 
 module _ {xs : List ℕ} {from count : ℕ} {rs : List StepRecord} {i : ℕ} (t : Turn xs from count rs i) where

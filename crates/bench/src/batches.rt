@@ -1,6 +1,7 @@
-// The run over a batch, over a list of numbers read as records: 64 records at a time.
+// The run over a batch, over a list of numbers read as records: a batch at a time.
 use crate::records::record_at;
 use crate::walks::Walked;
+use rules::BATCH;
 use rules::Board;
 use rules::Ran;
 use rules::StepRecord;
@@ -9,16 +10,17 @@ ghost use mathlib.Core.Path.{_≡_};
 ghost use mathlib.Core.List.{_++_};
 ghost use Prim.Native.Nat.{_+_, _*_, _/_, _≤_, min};
 ghost use lib.ListN.{length, take, drop};
+ghost use Rattle.rules.specs.Runs.{batchMost};
 ghost use Rattle.bench.specs.Records.{recordsOf};
 ghost use Rattle.bench.specs.Counts.{walkOf, zerosOf};
 
 fn batch_size(left: usize) -> usize
-    ensures { λ k. ⌜ k ≡ min left 64 ⌝ }
+    ensures { λ k. ⌜ k ≡ min left batchMost ⌝ }
 {
-    if left < 64 {
+    if left < BATCH {
         return left;
     }
-    64
+    BATCH
 }
 
 pub(crate) fn zeros_of(ran: Ran) -> u64
@@ -31,8 +33,8 @@ pub(crate) fn zeros_of(ran: Ran) -> u64
 }
 
 // So many records from one on; with those behind them they are all from there on.
-fn records_from(list: &[u16], from: usize, count: usize) -> [StepRecord; 64]
-    requires { ⌜ (count ≤ 64) × (from + count ≤ length (now list) / 4) ⌝ }
+fn records_from(list: &[u16], from: usize, count: usize) -> [StepRecord; BATCH]
+    requires { ⌜ (count ≤ batchMost) × (from + count ≤ length (now list) / 4) ⌝ }
     ensures { λ rs. ⌜ take count rs ++ recordsOf (drop (4 * (from + count)) (now (list .entry))) ≡ recordsOf (drop (4 * from) (now (list .entry))) ⌝ }
 {
     let blank = StepRecord {
@@ -41,7 +43,7 @@ fn records_from(list: &[u16], from: usize, count: usize) -> [StepRecord; 64]
         other: 0,
         slot: 0,
     };
-    let mut records = [blank; 64];
+    let mut records = [blank; BATCH];
     for i in 0..count {
         records[i] = record_at(list, from + i);
     }

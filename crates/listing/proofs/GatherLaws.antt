@@ -9,6 +9,7 @@ use native.Mathlib.Omega.{arith}
 use lib.ListN.{length, take, drop, set, length-take, length-drop, length-set}
 use lib.Seq.{take-suc-set}
 use borrow.Author.Tests.{le-leb, lt-leb}
+use Rattle.rules.specs.Runs.{batchMost}
 use Rattle.rules.specs.declared.StepRecord.{StepRecord}
 use Rattle.fields.specs.Fields.{upTo, endFrom}
 use Rattle.fields.proofs.PartLaws.{past-from, end-at-most}
@@ -25,9 +26,9 @@ behind-end at s {e} l q =
 
 -- at the head of each turn, with i lines gathered
 pub record Turn (s : List ℕ) (from most : ℕ) (steps : List StepRecord) (refusals : List ℕ) (at i : ℕ) : Type 0 where
-  pub few : most ≤ 64
+  pub few : most ≤ batchMost
   pub within : i ≤ most
-  pub room : (length steps ≡ 64) × (length refusals ≡ 64)
+  pub room : (length steps ≡ batchMost) × (length refusals ≡ batchMost)
   pub steps-are : take i steps ++ recordsOf (linesAt (most - i) at s) ≡ recordsOf (linesAt most from s)
   pub refusals-are : take i refusals ++ refusalsOf (linesAt (most - i) at s) ≡ refusalsOf (linesAt most from s)
   pub place-is : placeAfter (most - i) at s ≡ placeAfter most from s
@@ -67,7 +68,7 @@ records-length [] = refl
 records-length (l ∷ ls) = ap suc (records-length ls)
 
 -- ---- the turns
-pub turn-begins : (s : List ℕ) (from most : ℕ) (steps : List StepRecord) (refusals : List ℕ) → most ≤ 64 → length steps ≡ 64 → length refusals ≡ 64 → Turn s from most steps refusals from 0
+pub turn-begins : (s : List ℕ) (from most : ℕ) (steps : List StepRecord) (refusals : List ℕ) → most ≤ batchMost → length steps ≡ batchMost → length refusals ≡ batchMost → Turn s from most steps refusals from 0
 turn-begins s from most steps refusals l p q = record {
   few = l;
   within = omega arith;

@@ -9,6 +9,7 @@ use native.Mathlib.Omega.{arith}
 use lib.ListN.{length, getD, take, drop, length-append, length-take, drop-of-length-le}
 use lib.Dec.{eqb}
 use lib.Seq.{sets, length-sets, drop-cons, getD-take}
+use Rattle.rules.specs.Runs.{batchMost}
 use Rattle.rules.specs.declared.Verdict.{Verdict}
 use Rattle.rules.specs.declared.Verdict.the-variants.{Working, Finished}
 use Rattle.placing.specs.Placing.{wrote, written}
@@ -49,10 +50,10 @@ row-said n k j debt {a} {v} e f = ap (λ (x : ℕ). lineText n x debt v) e ∙ a
 
 -- at the head of each turn: what is left from here gives what the whole gives
 pub record RowTurn (whole : Placed) (size count : ℕ) (ks js ds out : List ℕ) (number to i : ℕ) : Type 0 where
-  pub few : count ≤ 64
+  pub few : count ≤ batchMost
   pub within : i ≤ count
   pub fits : number ≤ 4294967295
-  pub entries : (length ks ≡ 64) × (length js ≡ 64) × (length ds ≡ 64)
+  pub entries : (length ks ≡ batchMost) × (length js ≡ batchMost) × (length ds ≡ batchMost)
   pub inside : to ≤ length out
   pub same : length out ≡ size
   pub gives : rowsInto number (drop i (take count ks)) (drop i js) (drop i ds) to out ≡ whole

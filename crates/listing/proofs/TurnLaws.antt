@@ -11,7 +11,7 @@ use borrow.Author.Tests.{lt-leb}
 use Rattle.rules.specs.Sound.{Sound}
 use Rattle.rules.specs.Steps.{step}
 use Rattle.rules.specs.Lists.{after, answers}
-use Rattle.rules.specs.Runs.{debts, zeros, padded, batch}
+use Rattle.rules.specs.Runs.{debts, zeros, batchMost, padded, batch}
 use Rattle.rules.proofs.SoundLaws.{sound-tested, below-or-not}
 use Rattle.rules.specs.declared.Board.{Board}
 use Rattle.rules.specs.declared.StepRecord.{StepRecord}
@@ -36,7 +36,7 @@ use Rattle.listing.specs.declared.turns.Progress.{Progress}
 pub size-some : (room : ℕ) → 1 ≤ batchSize room
 size-some room = omega arith
 
-pub size-most : (room : ℕ) → batchSize room ≤ 64
+pub size-most : (room : ℕ) → batchSize room ≤ batchMost
 size-most room = omega arith
 
 -- more than one line surely fit
@@ -138,12 +138,12 @@ module _ (p : Progress) (s out : List ℕ) (is-sound : Sound (p .board)) (inside
       enough-answers : length (linesOf p s out) ≤ length (d .answers)
       enough-answers =
           let rs : List StepRecord = recordsOf (linesOf p s out) in
-          omega (arith, ap (λ (x : Batch). length (x .answers)) done, length-append (answers (p .board) rs) (replicate (64 - length (answers (p .board) rs)) 0), answers-length (p .board) rs, records-length (linesOf p s out))
+          omega (arith, ap (λ (x : Batch). length (x .answers)) done, length-append (answers (p .board) rs) (replicate (batchMost - length (answers (p .board) rs)) 0), answers-length (p .board) rs, records-length (linesOf p s out))
 
       enough-debts : length (linesOf p s out) ≤ length (d .debts)
       enough-debts =
           let rs : List StepRecord = recordsOf (linesOf p s out) in
-          omega (arith, ap (λ (x : Batch). length (x .debts)) done, length-append (debts (p .board) rs) (replicate (64 - length (debts (p .board) rs)) 0), debts-length (p .board) rs, records-length (linesOf p s out))
+          omega (arith, ap (λ (x : Batch). length (x .debts)) done, length-append (debts (p .board) rs) (replicate (batchMost - length (debts (p .board) rs)) 0), debts-length (p .board) rs, records-length (linesOf p s out))
 
       wrote-all : p .to + length (textOf p s out) ≤ length out → _≡_ {A = Placed} (record { line = w .line; to = w .to; left = left }) (record { line = numberAfter (p .line) (linesOf p s out); to = p .to + length (textOf p s out); left = sets out (p .to) (textOf p s out) })
       wrote-all l =

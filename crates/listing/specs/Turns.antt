@@ -6,6 +6,7 @@ use Prim.Native.Nat.{ℕ, _+_, _-_, _/_, min, max}
 use lib.ListN.{length, take}
 use lib.Dec.{eqb}
 use lib.Seq.{sets}
+use Rattle.rules.specs.Runs.{batchMost}
 use Rattle.rules.specs.Facts.{check, atMost, judge}
 use Rattle.rules.specs.Opening.{blankBoard}
 use Rattle.rules.specs.declared.Outcome.{Outcome}
@@ -66,9 +67,9 @@ rowsInto n (k ∷ ks) (j ∷ js) (d ∷ ds) at out = rowsInto (nextNumber n) ks 
 abbrev pub cursorOf : Progress → Cursor
 cursorOf p = record { begun = true; at = p .at; line = p .line; board = p .board }
 
--- how many lines surely fit in so many bytes, at most 64; one where none surely does
+-- how many lines surely fit in so many bytes, at most a batch; one where none surely does
 abbrev pub batchSize : ℕ → ℕ
-batchSize room = max 1 (min 64 (room / longestLine))
+batchSize room = max 1 (min batchMost (room / longestLine))
 
 -- from p at most k pieces are written to the buffer out, which leaves r and the buffer left
 pub record Advances (k : ℕ) (p : Progress) (s out : List ℕ) (r : Progress) (left : List ℕ) : Type 0 where

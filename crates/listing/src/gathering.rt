@@ -1,20 +1,22 @@
 // Script lines gathered as step records, for a batch.
 use fields::end_from;
+use rules::BATCH;
 use rules::StepRecord;
 use script::Reading;
 use script::read_line;
 ghost use mathlib.Core.Path.{_≡_};
 ghost use Prim.Native.Nat.{suc, _≤_, min};
+ghost use Rattle.rules.specs.Runs.{batchMost};
 ghost use Rattle.listing.specs.Batches.{linesAt, placeAfter, recordOf, refusalOf};
 ghost use Rattle.listing.specs.Turns.{Gathers};
 
 // What ends a line of a script.
 pub(crate) const NEWLINE: u8 = 10;
 
-// At most 64 lines as step records, the numbers that refuse those among them that are no step, and the place behind them.
+// Lines as step records, the numbers that refuse those among them that are no step, and the place behind them.
 pub(crate) struct Gathered {
-    pub(crate) steps: [StepRecord; 64],
-    pub(crate) refusals: [u16; 64],
+    pub(crate) steps: [StepRecord; BATCH],
+    pub(crate) refusals: [u16; BATCH],
     pub(crate) count: usize,
     pub(crate) at: usize,
 }
@@ -64,11 +66,11 @@ pub(crate) fn behind(end: usize, length: usize) -> usize
 
 // At most `most` lines from a place on.
 pub(crate) fn gather(script: &[u8], from: usize, most: usize) -> Gathered
-    requires { ⌜ most ≤ 64 ⌝ }
+    requires { ⌜ most ≤ batchMost ⌝ }
     ensures { λ g. ⌜ Gathers g (linesAt most from (now (script .entry))) (placeAfter most from (now (script .entry))) ⌝ }
 {
-    let mut steps = [no_step(); 64];
-    let mut refusals = [0u16; 64];
+    let mut steps = [no_step(); BATCH];
+    let mut refusals = [0u16; BATCH];
     let mut at = from;
     let mut i = 0;
     while i < most {

@@ -1,5 +1,6 @@
 // The lines of a batch, written one behind the other.
 use placing::Wrote;
+use rules::BATCH;
 use rules::Verdict;
 use texts::write_line;
 ghost use mathlib.Core.Path.{_≡_};
@@ -7,6 +8,7 @@ ghost use mathlib.Core.Bool.{cond};
 ghost use Prim.Native.Nat.{_≤_};
 ghost use lib.Dec.{eqb};
 ghost use lib.ListN.{length, take};
+ghost use Rattle.rules.specs.Runs.{batchMost};
 ghost use Rattle.rules.specs.declared.Verdict.the-variants.{Working, Finished};
 ghost use Rattle.listing.specs.Parts.{nextNumber};
 ghost use Rattle.listing.specs.Turns.{bytesOf, rowsInto};
@@ -59,14 +61,14 @@ fn state_of(debt: u64) -> Verdict
 // One line for each of the first `count` entries, from a place on. A line that does not fit leaves the buffer and the place as they are.
 pub(crate) fn write_rows(
     line: u32,
-    refusals: [u16; 64],
-    answers: [u16; 64],
-    debts: [u64; 64],
+    refusals: [u16; BATCH],
+    answers: [u16; BATCH],
+    debts: [u64; BATCH],
     count: usize,
     out: &mut [u8],
     at: usize,
 ) -> Rows
-    requires { ⌜ (count ≤ 64) × (at ≤ length (now out)) ⌝ }
+    requires { ⌜ (count ≤ batchMost) × (at ≤ length (now out)) ⌝ }
     ensures { λ r. ⌜ rowsInto line (take count refusals) answers debts at (now (out .entry)) ≡ record { line = r .line; to = r .to; left = now (out .exit) } ⌝ }
 {
     let mut number = line;

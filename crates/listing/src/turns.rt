@@ -1,6 +1,7 @@
 // A listing behind its first line, batch by batch: the steps of a batch go to the core in one call, which tests soundness once for all of them.
 use crate::gathering::gather;
 use crate::rows::write_rows;
+use rules::BATCH;
 use rules::Board;
 use steps::run_batch;
 ghost use mathlib.Core.Path.{_≡_};
@@ -21,7 +22,7 @@ pub(crate) struct Progress {
     pub(crate) to: usize,
 }
 
-// How many lines surely fit in so many bytes, at most 64; one where none surely does, since it may fit all the same.
+// How many lines surely fit in so many bytes, at most a batch; one where none surely does, since it may fit all the same.
 fn batch_size(room: usize) -> usize
     ensures { λ k. ⌜ k ≡ batchSize room ⌝ }
 {
@@ -29,8 +30,8 @@ fn batch_size(room: usize) -> usize
     if k < 1 {
         return 1;
     }
-    if k > 64 {
-        return 64;
+    if k > BATCH {
+        return BATCH;
     }
     k
 }

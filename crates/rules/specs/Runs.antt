@@ -37,14 +37,17 @@ runBuffer b rs out = judge (λ k. out) (runChecks b rs out) (answers b rs ++ dro
 unfoldable pub ranSteps : Board → List StepRecord → List ℕ → List StepRecord
 ranSteps b rs out = judge (λ k. []) (runChecks b rs out) rs
 
--- ---- a batch: a list of at most 64 steps by value, with the debt after each step beside its answer
+-- ---- a batch: a list of at most so many steps by value, with the debt after each step beside its answer
+abbrev pub batchMost : ℕ
+batchMost = 512
+
 unfoldable pub debts : Board → List StepRecord → List ℕ
 debts b [] = []
 debts b (r ∷ rs) = step b r .board .debt ∷ debts (step b r .board) rs
 
--- 64 entries: those given, then zeros
+-- as many entries as a batch can have: those given, then zeros
 abbrev pub padded : List ℕ → List ℕ
-padded ks = ks ++ replicate (64 - length ks) 0
+padded ks = ks ++ replicate (batchMost - length ks) 0
 
 abbrev pub batchChecks : Board → List Check
 batchChecks b = check (holds (sound b)) 30 ∷ []

@@ -101,12 +101,16 @@ pub enum Ran {
     Refused(u16),
 }
 
-// What a batch of at most 64 steps gives: as a run, with the answer to each step and the debt after it, and zeros behind them.
+// The most steps of a batch: the test of soundness and the copies of the board, once for each batch, are then a small part of its cost.
+pub const BATCH: usize = 512;
+
+// What a batch gives: as a run, with the answer to each step and the debt after it. Entries behind those are 0 and mean nothing,
+// and so are all entries where the batch is refused.
 pub struct Batch {
     pub ran: Ran,
     pub board: Board,
-    pub answers: [u16; 64],
-    pub debts: [u64; 64],
+    pub answers: [u16; BATCH],
+    pub debts: [u64; BATCH],
 }
 
 // A unit's share: what it keeps, and the weight that it gives away.

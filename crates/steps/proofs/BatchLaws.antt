@@ -13,7 +13,7 @@ use Rattle.rules.specs.Facts.{oneIf}
 use Rattle.rules.specs.Sound.{sound}
 use Rattle.rules.specs.Steps.{step}
 use Rattle.rules.specs.Lists.{after, answers, accepted}
-use Rattle.rules.specs.Runs.{zeros, debts, padded, batch, batchSteps}
+use Rattle.rules.specs.Runs.{zeros, debts, batchMost, padded, batch, batchSteps}
 use Rattle.rules.specs.Guarantee.{Carries}
 use Rattle.rules.specs.declared.Board.{Board}
 use Rattle.rules.specs.declared.StepRecord.{StepRecord}
@@ -85,15 +85,15 @@ drop-replicate zero n = simp unary-clauses
 drop-replicate (suc k) zero = ap (λ (n : ℕ). replicate n 0) (sym (zero-sub (suc k)))
 drop-replicate (suc k) (suc n) = drop-replicate k n ∙ simp unary-clauses
 
--- 64 zeros, written into from the front
+-- zeros, as many as a batch can have, written into from the front
 abbrev noughts : List ℕ
-noughts = replicate 64 0
+noughts = replicate batchMost 0
 
-noughts-padded : (ks : List ℕ) → length ks ≤ 64 → sets noughts 0 ks ≡ padded ks
+noughts-padded : (ks : List ℕ) → length ks ≤ batchMost → sets noughts 0 ks ≡ padded ks
 noughts-padded ks l =
-    sets-eq ks noughts 0 (omega (arith, length-replicate {A = ℕ} 64 0))
+    sets-eq ks noughts 0 (omega (arith, length-replicate {A = ℕ} batchMost 0))
     ∙ ap (λ (n : ℕ). ks ++ drop n noughts) (zero-add (length ks))
-    ∙ ap (λ (ys : List ℕ). ks ++ ys) (drop-replicate (length ks) 64)
+    ∙ ap (λ (ys : List ℕ). ks ++ ys) (drop-replicate (length ks) batchMost)
 
 -- a batch that is refused where the board is not sound
 abbrev pub unlessUnsound : Bool → Batch → Batch
@@ -101,9 +101,9 @@ unlessUnsound t x = record { ran = cond t (x .ran) (Refused 30); board = x .boar
 
 -- how many of the steps are run
 abbrev turnsOf : Bool → ℕ → ℕ
-turnsOf t count = cond t (min count 64) 0
+turnsOf t count = cond t (min count batchMost) 0
 
-pub turns-few : (t : Bool) (count : ℕ) → turnsOf t count ≤ 64
+pub turns-few : (t : Bool) (count : ℕ) → turnsOf t count ≤ batchMost
 turns-few true count = omega arith
 turns-few false count = omega arith
 
@@ -117,22 +117,22 @@ batchBy t b rs =
     cond t (record { ran = Zeros (zeros (answers b rs)); board = after b rs; answers = padded (answers b rs); debts = padded (debts b rs) })
     (record { ran = Refused 30; board = b; answers = padded []; debts = padded [] })
 
-filled-sound : (b : Board) (rs : List StepRecord) → length rs ≤ 64 → filled b rs 0 0 noughts noughts ≡ batchBy true b rs
+filled-sound : (b : Board) (rs : List StepRecord) → length rs ≤ batchMost → filled b rs 0 0 noughts noughts ≡ batchBy true b rs
 unfolding filled
 filled-sound b rs l =
     let e : sets noughts 0 (answers b rs) ≡ padded (answers b rs) = noughts-padded (answers b rs) (omega (arith, answers-length b rs)) in
     let f : sets noughts 0 (debts b rs) ≡ padded (debts b rs) = noughts-padded (debts b rs) (omega (arith, debts-length b rs)) in
     rw (e, f, zero-add)
 
-pub filled-batch : (b : Board) (steps : List StepRecord) (count : ℕ) (t : Bool) (n : ℕ) → length steps ≡ 64 → t ≡ sound b → n ≡ turnsOf t count → unlessUnsound t (filled b (take n steps) 0 0 noughts noughts) ≡ batch b (take count steps)
+pub filled-batch : (b : Board) (steps : List StepRecord) (count : ℕ) (t : Bool) (n : ℕ) → length steps ≡ batchMost → t ≡ sound b → n ≡ turnsOf t count → unlessUnsound t (filled b (take n steps) 0 0 noughts noughts) ≡ batch b (take count steps)
 unfolding batch
 filled-batch b steps count t n l e f = ap (λ (m : ℕ). unlessUnsound t (filled b (take m steps) 0 0 noughts noughts)) f ∙ by-test t ∙ ap (λ (q : Bool). batchBy q b (take count steps)) e
   where
-    -- all 64 where count is larger
-    same-steps : take (min count 64) steps ≡ take count steps
+    -- all of them where count is larger
+    same-steps : take (min count batchMost) steps ≡ take count steps
     same-steps =
-        below-or-not count 64 (λ p. let e : min count 64 ≡ count = omega arith in ap (λ (n : ℕ). take n steps) e)
-        (λ p. take-all (min count 64) steps (omega arith) ∙ sym (take-all count steps (omega arith)))
+        below-or-not count batchMost (λ p. let e : min count batchMost ≡ count = omega arith in ap (λ (n : ℕ). take n steps) e)
+        (λ p. take-all (min count batchMost) steps (omega arith) ∙ sym (take-all count steps (omega arith)))
 
     by-test : (q : Bool) → unlessUnsound q (filled b (take (turnsOf q count) steps) 0 0 noughts noughts) ≡ batchBy q b (take count steps)
     by-test true = ap (λ (rs : List StepRecord). filled b rs 0 0 noughts noughts) same-steps ∙ filled-sound b (take count steps) (omega (arith, length-take count steps))

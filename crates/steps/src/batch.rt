@@ -1,8 +1,9 @@
-// A run over a batch by value: at most 64 steps, with the answer to each and the debt after it. Soundness is tested once for all of them.
+// A run over a batch by value: at most `BATCH` steps, with the answer to each and the debt after it. Soundness is tested once for all of them.
 use crate::changes::change_at;
 use crate::changes::slot_place;
 use crate::changes::unit_place;
 use board::is_sound;
+use rules::BATCH;
 use rules::Batch;
 use rules::Board;
 use rules::Ran;
@@ -14,20 +15,20 @@ ghost use lib.Dec.{eqb};
 ghost use lib.ListN.{take};
 ghost use Rattle.rules.specs.Facts.{oneIf};
 ghost use Rattle.rules.specs.Guarantee.{Carries};
-ghost use Rattle.rules.specs.Runs.{batch, batchSteps};
+ghost use Rattle.rules.specs.Runs.{batchMost, batch, batchSteps};
 ghost use Rattle.rules.specs.declared.Ran.the-variants.{Zeros, Refused};
 
 // How many of the steps are run: none on a board that is not sound.
 fn turns(sound: bool, count: usize) -> usize
-    ensures { λ n. ⌜ n ≡ cond sound (min count 64) 0 ⌝ }
+    ensures { λ n. ⌜ n ≡ cond sound (min count batchMost) 0 ⌝ }
 {
     if !sound {
         return 0;
     }
-    if count < 64 {
+    if count < BATCH {
         return count;
     }
-    64
+    BATCH
 }
 
 // 1 for an accepted step.
@@ -49,15 +50,15 @@ fn ran_on(sound: bool, zeros: usize) -> Ran
     Ran::Refused(30)
 }
 
-// The first `count` steps, or all 64 where `count` is larger. The board is stored into where it lies, so no step copies it.
-pub fn run_batch(mut b: Board, steps: [StepRecord; 64], count: usize) -> Batch
+// The first `count` steps, or all of them where `count` is larger. The board is stored into where it lies, so no step copies it.
+pub fn run_batch(mut b: Board, steps: [StepRecord; BATCH], count: usize) -> Batch
     ensures { λ r. ⌜ r ≡ batch b (take count steps) ⌝ }
     ensures carries { λ r. ⌜ Carries b (batchSteps b (take count steps)) (r .board) ⌝ }
 {
     let sound = is_sound(b);
     let n = turns(sound, count);
-    let mut answers = [0u16; 64];
-    let mut debts = [0u64; 64];
+    let mut answers = [0u16; BATCH];
+    let mut debts = [0u64; BATCH];
     let mut zeros: usize = 0;
     for i in 0..n {
         let r = steps[i];

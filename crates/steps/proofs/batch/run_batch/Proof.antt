@@ -11,7 +11,7 @@ use Rattle.rules.specs.declared.Board.{Board}
 use Rattle.rules.specs.declared.StepRecord.{StepRecord}
 use Rattle.rules.specs.declared.Batch.{Batch}
 use Rattle.rules.specs.Steps.{step}
-use Rattle.rules.specs.Runs.{batch}
+use Rattle.rules.specs.Runs.{batchMost, batch}
 use Rattle.rules.specs.declared.Outcome.{Outcome}
 use Rattle.rules.specs.declared.Ran.{Ran}
 use Rattle.rules.proofs.SoundLaws.{sound-claims}
@@ -24,7 +24,7 @@ use Rattle.steps.proofs.batch.run_batch.Tie as tie
 
 -- at the head of each turn: what is left from here gives what the whole gives, and the board is sound while a step is left
 record Turn (whole : Batch) (rs : List StepRecord) (n : ℕ) (b : Board) (answers debts : List ℕ) (zeros i : ℕ) : Type 0 where
-  few : n ≤ 64
+  few : n ≤ batchMost
   within : i ≤ n
   counts : zeros ≤ i
   is-sound : i < n → Sound b
@@ -92,9 +92,9 @@ at-loop d = slot-place d .before .before .before
 abbrev start : tie.At-loop Inv-loop μ-loop → tie.Start Inv-loop μ-loop
 start h = h .before .before .before
 
--- what owning the steps tells: there are 64
-all-64 : (s : tie.Start Inv-loop μ-loop) → length (s .args .t2) ≡ 64
-all-64 s = search needs
+-- what owning the steps tells: how many there are
+all-there : (s : tie.Start Inv-loop μ-loop) → length (s .args .t2) ≡ batchMost
+all-there s = search needs
 
 -- the step that is asked for
 abbrev asked : tie.After-unit-place Inv-loop μ-loop → StepRecord
@@ -169,7 +169,7 @@ loop-again c =
       counts = omega (arith, k .accepted .ensures, one-at-most (eqb (g .change-at .result .answer) 0), h .loop .inv .counts);
       is-sound = λ p. subst (λ (o : Outcome). Sound (o .board)) (sym (stepped g)) (step-keeps-sound (h .loop .b) (asked d) (sure d));
       gives =
-          filled-turn (start h .args .t2) (h .before .turns .result) (h .loop .b) (h .loop .zeros) (h .loop .i) (k .accepted .result) (h .loop .answers) (h .loop .debts) (outcome g) (omega (arith, all-64 (start h))) (slot-place d .before .before .loop-test .taken) (stepped g) (k .accepted .ensures)
+          filled-turn (start h .args .t2) (h .before .turns .result) (h .loop .b) (h .loop .zeros) (h .loop .i) (k .accepted .result) (h .loop .answers) (h .loop .debts) (outcome g) (omega (arith, all-there (start h))) (slot-place d .before .before .loop-test .taken) (stepped g) (k .accepted .ensures)
           ∙ h .loop .inv .gives;
     }
 
@@ -186,7 +186,7 @@ returns c =
     let made : _ ≡ batch b (take (start h .args .count) steps) =
     ap (λ (q : Ran). record { ran = q; board = h .loop .b; answers = h .loop .answers; debts = h .loop .debts }) (c .ran-on .ensures)
     ∙ ap (unlessUnsound (t .result)) (sym (filled-end steps (n .result) (h .loop .b) (h .loop .zeros) (h .loop .i) (h .loop .answers) (h .loop .debts) (omega (arith, c .before .loop-test .left))) ∙ h .loop .inv .gives)
-    ∙ filled-batch b steps (start h .args .count) (t .result) (n .result) (all-64 (start h)) (t .ensures) (n .ensures) in
+    ∙ filled-batch b steps (start h .args .count) (t .result) (n .result) (all-there (start h)) (t .ensures) (n .ensures) in
     (made, batch-carries b (take (start h .args .count) steps) _ made)
 
 pub run-batch-spec : {M : Type 1} → statement M
