@@ -1,5 +1,6 @@
 //! Times the proved code beside plain Rust, in one run: `bench PROGRAM PLAIN`, where the two are the programs to compare.
-//! `bench once WHAT UNITS SLOTS STEPS` does one piece of work once, for a count of its instructions.
+//! `bench once WHAT UNITS SLOTS STEPS` does one piece of work once, for a count of its instructions, and
+//! `bench script BYTES` writes a script of that size.
 
 mod library;
 mod lists;
@@ -8,6 +9,7 @@ mod timing;
 
 use lists::Case;
 use std::fs::File;
+use std::io::Write;
 use std::process::{Command, ExitCode, Stdio};
 use timing::beside;
 
@@ -128,6 +130,11 @@ fn main() -> ExitCode {
             let (Ok(n), Ok(m), Ok(count)) = numbers else { return ExitCode::FAILURE };
             once(what, n, m, count).map_or(ExitCode::FAILURE, |_| ExitCode::SUCCESS)
         }
+        ["script", bytes] => {
+            let Ok(bytes) = bytes.parse() else { return ExitCode::FAILURE };
+            let written = std::io::stdout().write_all(&lists::script(bytes));
+            written.map_or(ExitCode::FAILURE, |()| ExitCode::SUCCESS)
+        }
         [proved, plain] => {
             steps();
             soundness();
@@ -136,7 +143,7 @@ fn main() -> ExitCode {
             programs(proved, plain).map_or(ExitCode::FAILURE, |()| ExitCode::SUCCESS)
         }
         _ => {
-            eprintln!("usage: bench PROGRAM PLAIN | bench once WHAT UNITS SLOTS STEPS");
+            eprintln!("usage: bench PROGRAM PLAIN | bench once WHAT UNITS SLOTS STEPS | bench script BYTES");
             ExitCode::FAILURE
         }
     }

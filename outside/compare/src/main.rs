@@ -1,85 +1,61 @@
-//! Compares the proved library with the reference, listing for listing and line for line, over generated scripts.
+//! Compares the proved code with the reference over generated scripts.
 //!
-//! `compare SCRIPTS [SEED]`: as many scripts as asked for. The seed is printed; a difference prints the script and ends the run.
+//! `compare SCRIPTS [SEED]`: the library, listing for listing and line for line, over as many scripts as asked for.
+//! `compare SCRIPTS SEED PROGRAM`: the program on as many scripts, and on scripts at the edges of what it reads.
+//! The seed is printed; a difference prints the script and ends the run.
 
-use reference::Record;
+mod listings;
+mod program;
+
 use std::process::ExitCode;
 
 const SEED: u64 = 20_261_115;
 
-/// What is wrong with the library's listing of a script, if anything.
-fn difference(script: &[u8], out: &mut Vec<u8>) -> Option<String> {
-    let expected = reference::list(script);
-    let length = compare::listing_length(script);
-    if length != expected.len() {
-        return Some(format!("the length is {length}, not {}", expected.len()));
-    }
-    // One byte too few is refused and touches nothing; bytes behind the listing stay as they were.
-    const MARK: u8 = 0xa5;
-    out.clear();
-    out.resize(length + 7, MARK);
-    if compare::list(script, &mut out[..length - 1]) != Err(27) {
-        return Some("a buffer that is one byte short is not refused by 27".into());
-    }
-    if out.iter().any(|&byte| byte != MARK) {
-        return Some("a refused call wrote to the buffer".into());
-    }
-    match compare::list(script, out) {
-        Err(number) => return Some(format!("the listing is refused by {number}")),
-        Ok(count) if count != length => return Some(format!("the count is {count}, not {length}")),
-        Ok(_) => {}
-    }
-    if out[..length] != expected[..] {
-        return Some(format!(
-            "the listings differ\n--- library\n{}\n--- reference\n{}",
-            String::from_utf8_lossy(&out[..length]),
-            String::from_utf8_lossy(&expected)
-        ));
-    }
-    if out[length..].iter().any(|&byte| byte != MARK) {
-        return Some("bytes behind the listing were written".into());
-    }
-    scripts::check_listing(script, &out[..length]).err()
+fn report(what: &str, script: &[u8]) -> ExitCode {
+    println!("compare: {what}");
+    println!("--- script\n{}", String::from_utf8_lossy(script));
+    ExitCode::FAILURE
 }
 
-/// What is wrong with a line as the library reads it, or with the step as it writes it, if anything.
-fn line_difference(line: &[u8]) -> Option<String> {
-    let expected = match reference::read_line(line, false) {
-        Ok(Record::Step(step)) => Ok(step),
-        Ok(Record::Board { .. }) => Err(reference::refusal::BOARD_MISPLACED),
-        Err(number) => Err(number),
-    };
-    let step = compare::read_step(line);
-    if step != expected {
-        return Some(format!("line {:?} is read as {step:?}, not {expected:?}", String::from_utf8_lossy(line)));
+/// The library on the scripts of a seed.
+fn library(count: u64, seed: u64) -> ExitCode {
+    println!("compare: the library, {count} scripts from seed {seed}");
+    let mut out = Vec::new();
+    let mut bytes = 0u64;
+    for index in 0..count {
+        let script = scripts::script(seed, index);
+        let lines = || reference::script_lines(&script).find_map(listings::line_difference);
+        if let Some(what) = listings::difference(&script, &mut out).or_else(lines) {
+            return report(&format!("script {index} of seed {seed}: {what}"), &script);
+        }
+        bytes += script.len() as u64;
     }
-    let step = step.ok()?;
-    let (mut written, mut wanted) = ([0; 32], [0; 32]);
-    let (count, length) = (compare::write_step(step, &mut written, 1), reference::write_step(step, &mut wanted, 1));
-    if count != length || written != wanted {
-        return Some(format!("{step:?} is written as {count:?}, {written:?}, not {length:?}, {wanted:?}"));
-    }
-    let back = compare::read_step(&written[1..length.ok()?]);
-    (back != Ok(step)).then(|| format!("{step:?} is read back as {back:?}"))
+    println!("compare: no difference in {count} scripts of {bytes} bytes");
+    ExitCode::SUCCESS
+}
+
+/// The program on the edges and on the scripts of a seed.
+fn program(count: u64, seed: u64, program: &str) -> ExitCode {
+    println!("compare: the program, {count} scripts from seed {seed}");
+    let file = std::env::temp_dir().join(format!("compare-{}.script", std::process::id()));
+    let generated = (0..count).map(|index| scripts::script(seed, index));
+    let found = program::edges().into_iter().chain(generated).find_map(|script| {
+        let what = program::difference(program, &script, &file)?;
+        Some(report(&what, &script))
+    });
+    std::fs::remove_file(&file).expect("the script's file can be removed");
+    found.unwrap_or_else(|| {
+        println!("compare: no difference in {count} scripts and {} edges", program::edges().len());
+        ExitCode::SUCCESS
+    })
 }
 
 fn main() -> ExitCode {
     let mut arguments = std::env::args().skip(1);
     let count: u64 = arguments.next().and_then(|word| word.parse().ok()).unwrap_or(20_000);
     let seed: u64 = arguments.next().and_then(|word| word.parse().ok()).unwrap_or(SEED);
-    println!("compare: {count} scripts from seed {seed}");
-    let mut out = Vec::new();
-    let mut bytes = 0u64;
-    for index in 0..count {
-        let script = scripts::script(seed, index);
-        let lines = || reference::script_lines(&script).find_map(line_difference);
-        if let Some(what) = difference(&script, &mut out).or_else(lines) {
-            println!("compare: script {index} of seed {seed}: {what}");
-            println!("--- script\n{}", String::from_utf8_lossy(&script));
-            return ExitCode::FAILURE;
-        }
-        bytes += script.len() as u64;
+    match arguments.next() {
+        Some(name) => program(count, seed, &name),
+        None => library(count, seed),
     }
-    println!("compare: no difference in {count} scripts of {bytes} bytes");
-    ExitCode::SUCCESS
 }

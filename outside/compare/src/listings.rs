@@ -1,0 +1,61 @@
+//! The library against the reference: a script's listing, and each of its lines.
+
+use reference::Record;
+
+/// What is wrong with the library's listing of a script, if anything.
+pub fn difference(script: &[u8], out: &mut Vec<u8>) -> Option<String> {
+    let expected = reference::list(script);
+    let length = compare::listing_length(script);
+    if length != expected.len() {
+        return Some(format!("the length is {length}, not {}", expected.len()));
+    }
+    // One byte too few is refused and touches nothing; bytes behind the listing stay as they were.
+    const MARK: u8 = 0xa5;
+    out.clear();
+    out.resize(length + 7, MARK);
+    if compare::list(script, &mut out[..length - 1]) != Err(27) {
+        return Some("a buffer that is one byte short is not refused by 27".into());
+    }
+    if out.iter().any(|&byte| byte != MARK) {
+        return Some("a refused call wrote to the buffer".into());
+    }
+    match compare::list(script, out) {
+        Err(number) => return Some(format!("the listing is refused by {number}")),
+        Ok(count) if count != length => return Some(format!("the count is {count}, not {length}")),
+        Ok(_) => {}
+    }
+    if out[..length] != expected[..] {
+        return Some(format!(
+            "the listings differ\n--- library\n{}\n--- reference\n{}",
+            String::from_utf8_lossy(&out[..length]),
+            String::from_utf8_lossy(&expected)
+        ));
+    }
+    if out[length..].iter().any(|&byte| byte != MARK) {
+        return Some("bytes behind the listing were written".into());
+    }
+    scripts::check_listing(script, &out[..length]).err()
+}
+
+/// What is wrong with a line as the library reads it, or with the step as it writes it, if anything.
+pub fn line_difference(line: &[u8]) -> Option<String> {
+    let expected = match reference::read_line(line, false) {
+        Ok(Record::Step(step)) => Ok(step),
+        Ok(Record::Board { .. }) => Err(reference::refusal::BOARD_MISPLACED),
+        Err(number) => Err(number),
+    };
+    let step = compare::read_step(line);
+    if step != expected {
+        let line = String::from_utf8_lossy(line);
+        return Some(format!("line {line:?} is read as {step:?}, not {expected:?}"));
+    }
+    let step = step.ok()?;
+    let (mut written, mut wanted) = ([0; 32], [0; 32]);
+    let count = compare::write_step(step, &mut written, 1);
+    let length = reference::write_step(step, &mut wanted, 1);
+    if count != length || written != wanted {
+        return Some(format!("{step:?} is written as {written:?}, {count:?}, not {wanted:?}, {length:?}"));
+    }
+    let back = compare::read_step(&written[1..length.ok()?]);
+    (back != Ok(step)).then(|| format!("{step:?} is read back as {back:?}"))
+}
