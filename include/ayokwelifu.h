@@ -1,13 +1,17 @@
 /*
- * The weight board for callers in C: the listing of a script, and a step as a line of a script.
+ * The weight board for callers in C, on x86-64 Linux: the listing of a script, and a step as a line of a script.
  *
  * Link libayokwelifu.a. Each function is proved to end and to touch nothing but what is lent to it. It returns 0, or
- * the number that refuses the call; a refusal leaves buffers and cells as they were. The numbers are explained in
- * README.md. No function keeps a pointer, allocates memory or uses global state, so calls from several threads
- * need no lock as long as what they lend is their own.
+ * the number that refuses the call; a refusal leaves buffers and cells as they were.
  *
- * A pointer must point to as many bytes as the length behind it says; a length may be 0, but the pointer must not be
- * null. Buffers and cells must not overlap each other or what is read.
+ * A pointer points to as many bytes as the length behind it says. It is never null, even where that length is 0, and
+ * a cell is aligned for its type. Buffers and cells do not overlap each other or what is read.
+ *
+ * No function keeps a pointer, allocates memory or has state of its own: calls from several threads need no lock as
+ * long as what they lend is their own. A call uses less than 256 KB of stack.
+ *
+ * Boards themselves do not pass: a caller keeps its steps as a script, and the listing says after each step whether
+ * the sheet is complete.
  */
 #ifndef AYOKWELIFU_H
 #define AYOKWELIFU_H
@@ -19,6 +23,28 @@
 extern "C" {
 #endif
 
+/* The kinds of a step. */
+enum ayokwelifu_kind {
+    AYOKWELIFU_START = 1,
+    AYOKWELIFU_SEND = 2,
+    AYOKWELIFU_REQUEST = 3,
+    AYOKWELIFU_DELIVER = 4,
+    AYOKWELIFU_REST = 5,
+    AYOKWELIFU_TICK = 6,
+    AYOKWELIFU_RELEASE = 7
+};
+
+/* The numbers that refuse a call here. README.md has these and all others, with causes and cures. */
+enum ayokwelifu_refusal {
+    AYOKWELIFU_NO_SUCH_KIND = 16,
+    AYOKWELIFU_LINE_TOO_LONG = 21,
+    AYOKWELIFU_UNKNOWN_WORD = 22,
+    AYOKWELIFU_WRONG_FIELD_COUNT = 23,
+    AYOKWELIFU_NO_NUMBER = 24,
+    AYOKWELIFU_BOARD_LINE = 25,
+    AYOKWELIFU_NO_ROOM = 27
+};
+
 /* No listing is longer, in bytes: a buffer of this size takes the listing of any script. */
 #define AYOKWELIFU_LONGEST_LISTING 2424796
 
@@ -27,21 +53,21 @@ extern "C" {
 
 /*
  * The length of the script's listing in bytes goes to *count. Returns 0: every script has a listing, also one that is
- * refused.
+ * refused. It takes about as long as listing.
  */
 uint16_t ayokwelifu_listing_length(const uint8_t *script, size_t script_length, uint64_t *count);
 
 /*
  * The script's listing goes to the start of out, and its length to *count; the rest of out is left as it was.
- * Returns 0, or 27 where the listing does not fit in out.
+ * Returns 0, or 27 where the listing does not fit in out. Since a refusal leaves out as it was, the length is found
+ * before a byte is written.
  */
 uint16_t ayokwelifu_list(const uint8_t *script, size_t script_length, uint8_t *out, size_t out_length, uint64_t *count);
 
 /*
- * A step, of the kind 1 (start) to 7 (release), goes as a line of a script to out from place at on, and the line's
- * length, its byte 10 included, to *count; the rest of out is left as it was. Fields that the kind has no letter for
- * are not read. Returns 0, or 16 where there is no such kind, then 27 where the line does not fit or the place is past
- * the end of out.
+ * A step goes as a line of a script to out from place at on, and the line's length, its byte 10 included, to *count;
+ * the rest of out is left as it was. Fields that the kind has no letter for are not read. Returns 0, or 16 where there
+ * is no such kind, then 27 where the line does not fit or the place is past the end of out.
  */
 uint16_t ayokwelifu_write_step(uint16_t kind, uint16_t unit, uint16_t other, uint16_t slot, uint8_t *out,
                                size_t out_length, size_t at, uint64_t *count);

@@ -4,8 +4,6 @@
 #include <stdio.h>
 #include <string.h>
 
-enum { START = 1, REST = 5 };
-
 static uint8_t script[256];
 static uint8_t listing[AYOKWELIFU_LONGEST_LISTING];
 
@@ -15,21 +13,22 @@ int main(void) {
     uint64_t count = 0;
 
     memcpy(script, opening, length);
-    if (ayokwelifu_write_step(START, 0, 0, 0, script, sizeof script, length, &count) != 0) {
+    if (ayokwelifu_write_step(AYOKWELIFU_START, 0, 0, 0, script, sizeof script, length, &count) != 0) {
         return 1;
     }
     length += count;
-    if (ayokwelifu_write_step(REST, 0, 0, 0, script, sizeof script, length, &count) != 0) {
+    if (ayokwelifu_write_step(AYOKWELIFU_REST, 0, 0, 0, script, sizeof script, length, &count) != 0) {
         return 1;
     }
     length += count;
-
-    /* A buffer that is too short is refused by 27 and stays as it was, and so does the count. */
-    if (ayokwelifu_list(script, length, listing, 1, &count) != 27 || listing[0] != 0) {
-        return 1;
-    }
     if (ayokwelifu_list(script, length, listing, sizeof listing, &count) != 0) {
         return 1;
     }
-    return fwrite(listing, 1, count, stdout) == count ? 0 : 1;
+    if (fwrite(listing, 1, count, stdout) != count) {
+        return 1;
+    }
+
+    /* A buffer that is too short is refused, and the count stays as it was. */
+    uint64_t same = count;
+    return ayokwelifu_list(script, length, listing, count - 1, &same) == AYOKWELIFU_NO_ROOM && same == count ? 0 : 1;
 }

@@ -32,9 +32,9 @@ extern "C" {
 fn list(script: &[u8]) -> Vec<u8> {
     let mut count = 0u64;
     unsafe {
-        ayokwelifu_listing_length(script.as_ptr(), script.len(), &mut count);
+        assert_eq!(ayokwelifu_listing_length(script.as_ptr(), script.len(), &mut count), 0);
         let mut out = vec![0u8; count as usize];
-        ayokwelifu_list(script.as_ptr(), script.len(), out.as_mut_ptr(), out.len(), &mut count);
+        assert_eq!(ayokwelifu_list(script.as_ptr(), script.len(), out.as_mut_ptr(), out.len(), &mut count), 0);
         out
     }
 }
@@ -44,9 +44,9 @@ fn there_and_back([kind, unit, other, slot]: [u16; 4]) -> [u16; 4] {
     let (mut line, mut count, mut step) = ([0u8; 32], 0u64, [0u16; 4]);
     let [a, b, c, d] = &mut step;
     unsafe {
-        ayokwelifu_write_step(kind, unit, other, slot, line.as_mut_ptr(), line.len(), 0, &mut count);
+        assert_eq!(ayokwelifu_write_step(kind, unit, other, slot, line.as_mut_ptr(), line.len(), 0, &mut count), 0);
         // The reader takes a line without its byte 10.
-        ayokwelifu_read_step(line.as_ptr(), count as usize - 1, a, b, c, d);
+        assert_eq!(ayokwelifu_read_step(line.as_ptr(), count as usize - 1, a, b, c, d), 0);
     }
     step
 }
