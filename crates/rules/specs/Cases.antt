@@ -91,6 +91,8 @@ rows =
     ∷ shares 3 1
     ∷ shares 2047 1023
     ∷ shares 2048 1024
+    ∷ shares 2050 1024
+    ∷ shares 4095 1024
     ∷ shares 16777216 1024
     ∷ runs 11 0 (0 ∷ []) (toWeightOne (send 1 0 10 ∷ [])) (allAccepted 13 (33 ∷ [])) Working
     ∷ runs 1 0 [] (start 0 ∷ start 0 ∷ []) (0 ∷ 37 ∷ []) Working
