@@ -61,3 +61,7 @@ FinishedRefuses =
     (m d : ℕ) (ps : List ℕ) (rs : List StepRecord) (r : StepRecord) → opening m d ps .answer ≡ 0
     → verdict (after (opening m d ps .board) rs) ≡ Finished → startCount (after (opening m d ps .board) rs) r ≡ 0
     → step (after (opening m d ps .board) rs) r .answer ≡ 0 → ⊥
+
+-- an accepted step never leaves the board as it was
+unfoldable pub AcceptedChanges : Type 0
+AcceptedChanges = (b : Board) (r : StepRecord) → step b r .answer ≡ 0 → step b r .board ≡ b → ⊥
