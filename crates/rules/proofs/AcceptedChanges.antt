@@ -66,21 +66,21 @@ module _ (b : Board) (r : StepRecord) (h : Sound b) where
   rest-changes c true e = quiets (r .unit) _ (c .places .0) (c .records .0) refl (ap (λ (d : Board). d .units) e)
   rest-changes c false e = quiets (r .unit) _ (c .places .0) (c .records .0) refl (ap (λ (d : Board). d .units) e)
 
-  changes : (a : Action) → AcceptedAs b r a → step b r .answer ≡ 0
+  changes : (a : Action) → AcceptedAs b r a
       → applied b (unitOf b r a) (slotOf r a) (recordEffect (b .debt) (b .delay) r (unitAt b (unitOf b r a)) (parentAt b (unitOf b r a)) (slotAt b (slotOf r a)) a) .board ≡ b → ⊥
   unfolding applied
-  changes Unknown c z e = omega (arith, sym (ap (λ (o : Outcome). o .answer) (c .gives)) ∙ z)
-  changes Start c z e = omega (arith, c .records, ap (λ (d : Board). d .debt) e)
-  changes Send c z e = fills (r .slot) _ (c .places .1 .1 .0) (c .records .1 .1 .0) refl (ap (λ (d : Board). d .slots) e)
-  changes RequestStep c z e = fills (r .slot) _ (c .places .1 .0) (c .records .1 .1 .1 .0) refl (ap (λ (d : Board). d .slots) e)
-  changes Deliver c z e = deliver-changes c (slotAt b (r .slot) .kind) refl e
-  changes Rest c z e = rest-changes c (eqb (r .unit) 0) e
-  changes Tick c z e = omega (arith, c .records, ap (λ (x : UnitRecord). x .countdown) (unit-stays (r .unit) _ (c .places .0) (ap (λ (d : Board). d .units) e)))
-  changes Release c z e = fills (r .slot) _ (c .places .1 .0) (c .records .1 .1 .0) refl (ap (λ (d : Board). d .slots) e)
+  changes Unknown c e = true-not-false (sym (c .records .0))
+  changes Start c e = omega (arith, c .records, ap (λ (d : Board). d .debt) e)
+  changes Send c e = fills (r .slot) _ (c .places .1 .1 .0) (c .records .1 .1 .0) refl (ap (λ (d : Board). d .slots) e)
+  changes RequestStep c e = fills (r .slot) _ (c .places .1 .0) (c .records .1 .1 .1 .0) refl (ap (λ (d : Board). d .slots) e)
+  changes Deliver c e = deliver-changes c (slotAt b (r .slot) .kind) refl e
+  changes Rest c e = rest-changes c (eqb (r .unit) 0) e
+  changes Tick c e = omega (arith, c .records, ap (λ (x : UnitRecord). x .countdown) (unit-stays (r .unit) _ (c .places .0) (ap (λ (d : Board). d .units) e)))
+  changes Release c e = fills (r .slot) _ (c .places .1 .0) (c .records .1 .1 .0) refl (ap (λ (d : Board). d .slots) e)
 
 pub accepted-changes : AcceptedChanges
 unfolding AcceptedChanges
 accepted-changes b r z e =
     let h : Sound b = accepted-sound b r z in
     let c = accepted-as b r h (actionOf (r .kind)) refl z in
-    changes b r h (actionOf (r .kind)) c z (sym (ap (λ (o : Outcome). o .board) (c .gives)) ∙ e)
+    changes b r h (actionOf (r .kind)) c (sym (ap (λ (o : Outcome). o .board) (c .gives)) ∙ e)
