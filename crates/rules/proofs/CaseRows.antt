@@ -15,7 +15,7 @@ use Rattle.rules.specs.Depths.{depthWithin, depth, deepest}
 use Rattle.rules.specs.Opening.{lowerParents, fresh, blankBoard, opening}
 use Rattle.rules.specs.Steps.{share, grantFits, actionOf, recordRule, effect, applied, soundStep, step}
 use Rattle.rules.specs.Lists.{after, answers, startBy}
-use Rattle.rules.specs.Drains.{Quiet, Drain, waitingUnits, returnsUnderWay, drainBound}
+use Rattle.rules.specs.Drains.{toldFrom, Quiet, Drain, waitingUnits, returnsUnderWay, drainBound}
 use Rattle.rules.specs.Cases.{Row, shares, opens, runs, Right, AllRight, rows, attainedFrom, attainedBy, BoundAttained, stuckBoard, Stuck, deliver, wholeToRest}
 use Rattle.rules.proofs.FactLaws.{and-left, and-right, true-not-false, each-claims, each-at, asked}
 use Rattle.rules.proofs.SoundLaws.{sound-claims, below-or-not}
@@ -100,7 +100,7 @@ row-right (runs m d ps rs ks v) c =
     let h : Sound f = opening-sound m d ps (c .0) .0 in (
       c .0,
       quick-answers f rs h ∙ same-list _ ks (c .1 .0),
-      verdict-sound (after f rs) (list-keeps-sound f rs h) ∙ ap (λ (b : Board). cond (eqb (b .debt) 0) Finished Working) (quick-after f rs h) ∙ tells-by _ v (c .1 .1 .0),
+      verdict-sound (after f rs) (list-keeps-sound f rs h) ∙ ap (λ (b : Board). toldFrom (b .debt)) (quick-after f rs h) ∙ tells-by _ v (c .1 .1 .0),
     )
 
 rows-right : (rs : List Row) → Each (λ i row. rowRow row) rs → AllRight rs

@@ -9,7 +9,7 @@ use borrow.Author.Tests.{eqb-true, eq-eqb}
 use Rattle.rules.specs.Facts.{oneIf}
 use Rattle.rules.specs.Words.{isIdle, unitAt, slotAt, blankUnit, blankSlot}
 use Rattle.rules.specs.Sound.{unitsWeight, slotsWeight, Sound, sound}
-use Rattle.rules.specs.Drains.{verdict, Complete}
+use Rattle.rules.specs.Drains.{toldFrom, verdict, Complete}
 use Rattle.rules.proofs.SumLaws.{sum-none}
 use Rattle.rules.proofs.SoundLaws.{sound-claims, sound-tested, below-or-not, unit-past, unit-past-weight, slot-past, slot-past-weight, unit-weight, slot-weight}
 use Rattle.rules.proofs.StepFits.{empty-is, unit-row-as, slot-row-as, pending-as, suspended-active, pending-suspended}
@@ -27,7 +27,7 @@ idle-is Active e = cc
 idle-is Waiting e = cc
 
 -- the verdict on a sound board is told from the debt
-pub verdict-sound : (b : Board) → Sound b → verdict b ≡ cond (eqb (b .debt) 0) Finished Working
+pub verdict-sound : (b : Board) → Sound b → verdict b ≡ toldFrom (b .debt)
 unfolding verdict
 verdict-sound b h = rw (sound-tested b h)
 
@@ -108,7 +108,7 @@ finished-sound b e = by-test (sound b) refl e
     distinct : _≡_ {A = Verdict} (Refused 30) Finished → ⊥
     distinct z = let o : _≡_ {A = ℕ} 0 1 = cc in omega arith
 
-    by-test : (t : Bool) → sound b ≡ t → cond t (cond (eqb (b .debt) 0) Finished Working) (Refused 30) ≡ Finished → Sound b
+    by-test : (t : Bool) → sound b ≡ t → cond t (toldFrom (b .debt)) (Refused 30) ≡ Finished → Sound b
     by-test true s q = sound-claims b s
     by-test false s q = absurd (distinct q)
 

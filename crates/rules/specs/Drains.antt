@@ -17,9 +17,13 @@ use Rattle.rules.specs.declared.StepRecord.{StepRecord}
 use Rattle.rules.specs.declared.Verdict.{Verdict}
 use Rattle.rules.specs.declared.Verdict.the-variants.{Working, Finished, Refused}
 
--- "Finished means debt 0, and is told from the debt of a sound board; an unsound one gets 30"
+-- "Finished means debt 0"
+abbrev pub toldFrom : ℕ → Verdict
+toldFrom debt = cond (eqb debt 0) Finished Working
+
+-- ".. and is told from the debt of a sound board; an unsound one gets 30"
 unfoldable pub verdict : Board → Verdict
-verdict b = judge Refused (check (holds (sound b)) 30 ∷ []) (cond (eqb (b .debt) 0) Finished Working)
+verdict b = judge Refused (check (holds (sound b)) 30 ∷ []) (toldFrom (b .debt))
 
 -- every unit is idle and every slot empty
 pub record Complete (b : Board) : Type 0 where
