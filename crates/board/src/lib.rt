@@ -9,7 +9,7 @@ ghost use mathlib.Core.Path.{_≡_};
 ghost use mathlib.Core.Bool.{true};
 ghost use mathlib.Core.List.{[]};
 ghost use Rattle.rules.specs.Sound.{sound};
-ghost use Rattle.rules.specs.Drains.{verdict, Complete};
+ghost use Rattle.rules.specs.Finished.{verdict, Complete};
 ghost use Rattle.rules.specs.Guarantee.{Carries};
 ghost use Rattle.rules.specs.declared.Verdict.the-variants.{Finished};
 pub use depths::depth_of;

@@ -15,7 +15,8 @@ use Rattle.rules.specs.Depths.{depthWithin, depth, deepest}
 use Rattle.rules.specs.Opening.{lowerParents, fresh, blankBoard, opening}
 use Rattle.rules.specs.Steps.{share, grantFits, actionOf, recordRule, effect, applied, soundStep, step}
 use Rattle.rules.specs.Lists.{after, answers, startBy}
-use Rattle.rules.specs.Drains.{toldFrom, Quiet, Drain, waitingUnits, returnsUnderWay, drainBound}
+use Rattle.rules.specs.Finished.{toldFrom}
+use Rattle.rules.specs.Drains.{Quiet, Drain, waitingUnits, returnsUnderWay, drainBound}
 use Rattle.rules.specs.Cases.{Row, shares, opens, runs, Right, AllRight, rows, attainedFrom, attainedBy, BoundAttained, stuckBoard, Stuck, deliver, wholeToRest}
 use Rattle.rules.proofs.FactLaws.{and-left, and-right, true-not-false, each-claims, each-at, asked}
 use Rattle.rules.proofs.SoundLaws.{sound-claims, below-or-not}

@@ -9,7 +9,7 @@ use borrow.Author.Tests.{eqb-true, eq-eqb}
 use Rattle.rules.specs.Facts.{oneIf}
 use Rattle.rules.specs.Words.{isIdle, unitAt, slotAt, blankUnit, blankSlot}
 use Rattle.rules.specs.Sound.{unitsWeight, slotsWeight, Sound, sound}
-use Rattle.rules.specs.Drains.{toldFrom, verdict, Complete}
+use Rattle.rules.specs.Finished.{toldFrom, verdict, Complete}
 use Rattle.rules.proofs.SumLaws.{sum-none}
 use Rattle.rules.proofs.SoundLaws.{sound-claims, sound-tested, below-or-not, unit-past, unit-past-weight, slot-past, slot-past-weight, unit-weight, slot-weight}
 use Rattle.rules.proofs.StepFits.{empty-is, unit-row-as, slot-row-as, pending-as, suspended-active, pending-suspended}

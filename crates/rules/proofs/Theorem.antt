@@ -11,7 +11,8 @@ use Rattle.rules.specs.Depths.{greatestDepth}
 use Rattle.rules.specs.Opening.{fresh, opening}
 use Rattle.rules.specs.Steps.{step}
 use Rattle.rules.specs.Lists.{after}
-use Rattle.rules.specs.Drains.{Quiet, Complete, Drain, waitingUnits, returnsUnderWay, drainBound}
+use Rattle.rules.specs.Finished.{Complete}
+use Rattle.rules.specs.Drains.{Quiet, Drain, waitingUnits, returnsUnderWay, drainBound}
 use Rattle.rules.specs.Guarantee.{Guaranteed, Guarantee, Carries, FinishedRefuses}
 use Rattle.rules.proofs.SumLaws.{sum-none}
 use Rattle.rules.proofs.FreshSound.{opening-passed, opening-fresh, fresh-sound}

@@ -9,7 +9,8 @@ use Rattle.rules.specs.Sound.{Sound}
 use Rattle.rules.specs.Opening.{opening}
 use Rattle.rules.specs.Steps.{share, message, step}
 use Rattle.rules.specs.Lists.{after, answers}
-use Rattle.rules.specs.Drains.{verdict, Quiet, Drain, drainBound}
+use Rattle.rules.specs.Finished.{verdict}
+use Rattle.rules.specs.Drains.{Quiet, Drain, drainBound}
 use Rattle.rules.specs.declared.State.the-variants.{Active}
 use Rattle.rules.specs.declared.Kind.the-variants.{Request}
 use Rattle.rules.specs.declared.Board.{Board}

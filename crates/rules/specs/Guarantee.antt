@@ -9,7 +9,8 @@ use Rattle.rules.specs.Sound.{Sound, weightOut}
 use Rattle.rules.specs.Opening.{opening}
 use Rattle.rules.specs.Steps.{step}
 use Rattle.rules.specs.Lists.{after, tally, startCount, grantCount, takenCount}
-use Rattle.rules.specs.Drains.{verdict, Complete, Quiet, Drain, DrainStep, drainBound}
+use Rattle.rules.specs.Finished.{verdict, Complete}
+use Rattle.rules.specs.Drains.{Quiet, Drain, DrainStep, drainBound}
 use Rattle.rules.specs.declared.Board.{Board}
 use Rattle.rules.specs.declared.StepRecord.{StepRecord}
 use Rattle.rules.specs.declared.Verdict.the-variants.{Finished}

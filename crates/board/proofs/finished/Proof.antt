@@ -7,7 +7,7 @@ use borrow.Author.Needs.{needs}
 use borrow.Author.Tests.{not-true, not-false, eq-eqb, ne-eqb}
 use Rattle.rules.specs.Sound.{sound}
 use Rattle.rules.specs.Lists.{after}
-use Rattle.rules.specs.Drains.{verdict, Complete}
+use Rattle.rules.specs.Finished.{verdict, Complete}
 use Rattle.rules.specs.Guarantee.{Carries}
 use Rattle.rules.proofs.FinishedLaws.{finished-tells}
 use Rattle.rules.proofs.Theorem.{carries}
