@@ -16,7 +16,7 @@ pub record Quiet (b : Board) : Type 0 where
   pub none-active : (i : ℕ) → isActive (unitAt b i .state) ≡ false
   pub no-work : (j : ℕ) → isWork (slotAt b j .kind) ≡ false
 
--- "A drain is a list of accepted steps, none a start"; the list of no steps is one
+-- drain, the rules' own term: "A drain is a list of accepted steps, none a start"; the list of no steps is one
 abbrev pub DrainStep : Board → StepRecord → Type 0
 DrainStep b r = (step b r .answer ≡ 0) × (startCount b r ≡ 0)
 

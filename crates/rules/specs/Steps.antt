@@ -22,7 +22,7 @@ use Rattle.rules.specs.declared.StepRecord.{StepRecord}
 use Rattle.rules.specs.declared.Shared.{Shared}
 use Rattle.rules.specs.declared.Outcome.{Outcome}
 
--- "Share": 2^10 if W is at least 2^11, else half of W rounded down
+-- share, the rules' own term: 2^10 if W is at least 2^11, else half of W rounded down
 abbrev pub share : ℕ → ℕ
 share w = cond (leb 2048 w) 1024 (w / 2)
 
