@@ -1,4 +1,4 @@
--- The guarantee, demand 3: one claim about every accepted opening and every list of steps, in whatever order.
+-- The guarantee: one claim about every accepted opening and every list of steps, in whatever order.
 use mathlib.Core.Path.{_≡_}
 use mathlib.Core.List.{List, _++_}
 use mathlib.Core.Logic.{_↔_}
