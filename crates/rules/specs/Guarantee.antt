@@ -63,6 +63,12 @@ FinishedRefuses =
     → verdict (after (opening m d ps .board) rs) ≡ Finished → startCount (after (opening m d ps .board) rs) r ≡ 0
     → step (after (opening m d ps .board) rs) r .answer ≡ 0 → ⊥
 
+-- on a finished board that a list left, unit 0 took back all that starts and grants brought in
+unfoldable pub FinishedAllBack : Type 0
+FinishedAllBack =
+    (m d : ℕ) (ps : List ℕ) (rs : List StepRecord) → opening m d ps .answer ≡ 0 → verdict (after (opening m d ps .board) rs) ≡ Finished
+    → tally takenCount (opening m d ps .board) rs ≡ grant * (tally startCount (opening m d ps .board) rs + tally grantCount (opening m d ps .board) rs)
+
 -- an accepted step never leaves the board as it was
 unfoldable pub AcceptedChanges : Type 0
 AcceptedChanges = (b : Board) (r : StepRecord) → step b r .answer ≡ 0 → step b r .board ≡ b → ⊥
