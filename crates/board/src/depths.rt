@@ -23,10 +23,12 @@ fn depth_along(parents: &[u16; 64], u: u16) -> u16
 pub fn depth_of(b: Board, u: u16) -> Depth
     ensures { λ r. ⌜ r ≡ depthAnswer b u ⌝ }
 {
-    if !is_sound(b) {
+    let sound = is_sound(b);
+    let n = b.n;
+    if !sound {
         return Depth::Refused(30);
     }
-    if u >= b.n {
+    if u >= n {
         return Depth::Refused(13);
     }
     let ps = b.parents;

@@ -11,7 +11,7 @@ use lib.Seq.{sets, length-sets}
 use borrow.Author.Tests.{le-leb, lt-leb, not-true}
 use Rattle.rules.specs.Sound.{sound}
 use Rattle.rules.proofs.FactLaws.{true-or-false}
-use Rattle.rules.specs.Drains.{verdict}
+use Rattle.rules.specs.Finished.{verdict}
 use Rattle.rules.proofs.SoundLaws.{below-or-not, sound-tested}
 use Rattle.rules.specs.declared.Outcome.{Outcome}
 use Rattle.rules.specs.declared.Verdict.{Verdict}

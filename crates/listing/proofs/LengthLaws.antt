@@ -9,7 +9,7 @@ use lib.Dec.{leb}
 use borrow.Author.Tests.{le-leb, ne-eqb}
 use Rattle.rules.specs.Words.{ceiling}
 use Rattle.rules.specs.Sound.{Sound}
-use Rattle.rules.specs.Drains.{verdict}
+use Rattle.rules.specs.Finished.{verdict}
 use Rattle.rules.proofs.FactLaws.{true-not-false}
 use Rattle.rules.proofs.AnswerLaws.{answer-short}
 use Rattle.rules.proofs.ListLaws.{step-keeps-sound}

@@ -10,7 +10,7 @@ use borrow.Author.Tests.{le-leb, eq-eqb}
 use Rattle.rules.specs.Opening.{opening}
 use Rattle.rules.specs.Steps.{step}
 use Rattle.rules.specs.Lists.{after}
-use Rattle.rules.specs.Drains.{verdict, Complete}
+use Rattle.rules.specs.Finished.{verdict, Complete}
 use Rattle.rules.specs.Guarantee.{Guarantee}
 use Rattle.rules.proofs.FactLaws.{judge-passed}
 use Rattle.rules.proofs.JudgeLaws.{Judged, passed, failed, judged}

@@ -8,7 +8,7 @@ use native.Mathlib.Omega.{arith}
 use lib.ListN.{length, length-append}
 use lib.Dec.{leb}
 use borrow.Author.Tests.{le-leb, leb-true}
-use Rattle.rules.specs.Drains.{verdict}
+use Rattle.rules.specs.Finished.{verdict}
 use Rattle.rules.specs.declared.Outcome.{Outcome}
 use Rattle.texts.specs.Texts.{heading, stateWord, boardText}
 use Rattle.listing.specs.Parts.{Piece, ended, firstPiece, laterPiece, piece, stops, before, partWithin, part}

@@ -9,7 +9,7 @@ use borrow.Author.Tests.{eq-eqb, ne-eqb, le-leb, lt-leb}
 use Rattle.rules.specs.Facts.{Check, check, atMost}
 use Rattle.rules.specs.Sound.{Sound, sound}
 use Rattle.rules.specs.Opening.{openingChecks, fresh, blankBoard, opening}
-use Rattle.rules.specs.Drains.{verdict}
+use Rattle.rules.specs.Finished.{verdict}
 use Rattle.rules.proofs.FactLaws.{judge-passed}
 use Rattle.rules.proofs.JudgeLaws.{Number, Judged, passed, failed, judged, judge-map}
 use Rattle.rules.proofs.SoundLaws.{sound-claims}

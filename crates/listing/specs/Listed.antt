@@ -7,7 +7,7 @@ use Prim.Native.Nat.{ℕ, suc, _≤_}
 use lib.ListN.{length}
 use Rattle.rules.specs.Opening.{opening}
 use Rattle.rules.specs.Lists.{after}
-use Rattle.rules.specs.Drains.{verdict, Complete}
+use Rattle.rules.specs.Finished.{verdict, Complete}
 use Rattle.rules.specs.declared.Board.{Board}
 use Rattle.rules.specs.declared.StepRecord.{StepRecord}
 use Rattle.rules.specs.declared.Outcome.{Outcome}

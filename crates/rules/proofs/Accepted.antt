@@ -41,7 +41,7 @@ grant-numbered debt Request = omega arith
 grant-numbered debt Supply = tt
 
 pub record-numbered : (debt : ℕ) (x : UnitRecord) (y : Slot) (a : Action) → Numbered (recordChecks debt x y a)
-record-numbered debt x y Unknown = tt
+record-numbered debt x y Unknown = omega arith
 record-numbered debt x y Start = omega arith
 record-numbered debt x y Send = omega arith
 record-numbered debt x y RequestStep = omega arith

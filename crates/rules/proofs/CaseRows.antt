@@ -15,6 +15,7 @@ use Rattle.rules.specs.Depths.{depthWithin, depth, deepest}
 use Rattle.rules.specs.Opening.{lowerParents, fresh, blankBoard, opening}
 use Rattle.rules.specs.Steps.{share, grantFits, actionOf, recordRule, effect, applied, soundStep, step}
 use Rattle.rules.specs.Lists.{after, answers, startBy}
+use Rattle.rules.specs.Finished.{toldFrom}
 use Rattle.rules.specs.Drains.{Quiet, Drain, waitingUnits, returnsUnderWay, drainBound}
 use Rattle.rules.specs.Cases.{Row, shares, opens, runs, Right, AllRight, rows, attainedFrom, attainedBy, BoundAttained, stuckBoard, Stuck, deliver, wholeToRest}
 use Rattle.rules.proofs.FactLaws.{and-left, and-right, true-not-false, each-claims, each-at, asked}
@@ -100,7 +101,7 @@ row-right (runs m d ps rs ks v) c =
     let h : Sound f = opening-sound m d ps (c .0) .0 in (
       c .0,
       quick-answers f rs h ∙ same-list _ ks (c .1 .0),
-      verdict-sound (after f rs) (list-keeps-sound f rs h) ∙ ap (λ (b : Board). cond (eqb (b .debt) 0) Finished Working) (quick-after f rs h) ∙ tells-by _ v (c .1 .1 .0),
+      verdict-sound (after f rs) (list-keeps-sound f rs h) ∙ ap (λ (b : Board). toldFrom (b .debt)) (quick-after f rs h) ∙ tells-by _ v (c .1 .1 .0),
     )
 
 rows-right : (rs : List Row) → Each (λ i row. rowRow row) rs → AllRight rs
@@ -176,22 +177,22 @@ unfolding stuckBoard sound each sumOf pending unitsWeight slotsWeight
 stuck-sound = sound-claims stuckBoard refl
 
 -- its one unit is active and suspended, its one slot a request, and the debt is at the ceiling
-stuck-refuses : (r : StepRecord) (a : Action) → AcceptedAs stuckBoard r a → step stuckBoard r .answer ≡ 0 → ⊥
-unfolding stuckBoard applied
-stuck-refuses r Unknown c z = omega (arith, sym (ap (λ (o : Outcome). o .answer) (c .gives)) ∙ z)
-stuck-refuses r Start c z = omega (arith, c .records)
-stuck-refuses r Send c z = at-zero (r .unit) (c .places .0) (λ i. unitAt stuckBoard i .suspended ≡ false) (c .records .1 .0) true-not-false
-stuck-refuses r RequestStep c z = at-zero (r .unit) (c .places .0) (λ i. unitAt stuckBoard i .suspended ≡ false) (c .records .1 .0) true-not-false
-stuck-refuses r Deliver c z = at-zero (r .slot) (c .places .0) (λ i. Claims (asked (grantFits ceiling (slotAt stuckBoard i .kind)))) (c .records .1) (λ q. omega (arith, q))
-stuck-refuses r Rest c z = at-zero (r .unit) (c .places .0) (λ i. unitAt stuckBoard i .suspended ≡ false) (c .records .1 .0) true-not-false
-stuck-refuses r Tick c z = at-zero (r .unit) (c .places .0) (λ i. isWaiting (unitAt stuckBoard i .state) ≡ true) (c .records .0) (λ e. true-not-false (sym e))
-stuck-refuses r Release c z = at-zero (r .unit) (c .places .0) (λ i. isWaiting (unitAt stuckBoard i .state) ≡ true) (c .records .0) (λ e. true-not-false (sym e))
+stuck-refuses : (r : StepRecord) (a : Action) → AcceptedAs stuckBoard r a → ⊥
+unfolding stuckBoard
+stuck-refuses r Unknown c = true-not-false (sym (c .records .0))
+stuck-refuses r Start c = omega (arith, c .records)
+stuck-refuses r Send c = at-zero (r .unit) (c .places .0) (λ i. unitAt stuckBoard i .suspended ≡ false) (c .records .1 .0) true-not-false
+stuck-refuses r RequestStep c = at-zero (r .unit) (c .places .0) (λ i. unitAt stuckBoard i .suspended ≡ false) (c .records .1 .0) true-not-false
+stuck-refuses r Deliver c = at-zero (r .slot) (c .places .0) (λ i. Claims (asked (grantFits ceiling (slotAt stuckBoard i .kind)))) (c .records .1) (λ q. omega (arith, q))
+stuck-refuses r Rest c = at-zero (r .unit) (c .places .0) (λ i. unitAt stuckBoard i .suspended ≡ false) (c .records .1 .0) true-not-false
+stuck-refuses r Tick c = at-zero (r .unit) (c .places .0) (λ i. isWaiting (unitAt stuckBoard i .state) ≡ true) (c .records .0) (λ e. true-not-false (sym e))
+stuck-refuses r Release c = at-zero (r .unit) (c .places .0) (λ i. isWaiting (unitAt stuckBoard i .state) ≡ true) (c .records .0) (λ e. true-not-false (sym e))
 
 pub stuck : Stuck stuckBoard
 unfolding stuckBoard recordRule effect applied soundStep
 stuck = record {
   is-sound = stuck-sound;
   not-finished = verdict-sound stuckBoard stuck-sound;
-  refused = λ r e. stuck-refuses r (actionOf (r .kind)) (accepted-as stuckBoard r stuck-sound (actionOf (r .kind)) refl e) e;
+  refused = λ r e. stuck-refuses r (actionOf (r .kind)) (accepted-as stuckBoard r stuck-sound (actionOf (r .kind)) refl e);
   grant-refused = ap (λ (o : Outcome). o .answer) (step-sound stuckBoard (deliver 0) stuck-sound);
 }

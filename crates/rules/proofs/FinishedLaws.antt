@@ -1,4 +1,4 @@
--- Finished is told exactly where every unit is idle and every slot empty.
+-- Finished is told exactly of the sound boards on which every unit is idle and every slot empty.
 use mathlib.Core.Path.{_≡_, refl, sym, ap, _∙_}
 use mathlib.Core.Bool.{Bool, true, false, cond}
 use mathlib.Core.Logic.{_↔_}
@@ -8,10 +8,10 @@ use lib.Dec.{eqb}
 use borrow.Author.Tests.{eqb-true, eq-eqb}
 use Rattle.rules.specs.Facts.{oneIf}
 use Rattle.rules.specs.Words.{isIdle, unitAt, slotAt, blankUnit, blankSlot}
-use Rattle.rules.specs.Sound.{unitsWeight, slotsWeight, Sound}
-use Rattle.rules.specs.Drains.{verdict, Complete}
+use Rattle.rules.specs.Sound.{unitsWeight, slotsWeight, Sound, sound}
+use Rattle.rules.specs.Finished.{toldFrom, verdict, Complete}
 use Rattle.rules.proofs.SumLaws.{sum-none}
-use Rattle.rules.proofs.SoundLaws.{sound-tested, below-or-not, unit-past, unit-past-weight, slot-past, slot-past-weight, unit-weight, slot-weight}
+use Rattle.rules.proofs.SoundLaws.{sound-claims, sound-tested, below-or-not, unit-past, unit-past-weight, slot-past, slot-past-weight, unit-weight, slot-weight}
 use Rattle.rules.proofs.StepFits.{empty-is, unit-row-as, slot-row-as, pending-as, suspended-active, pending-suspended}
 use Rattle.rules.specs.declared.State.{State}
 use Rattle.rules.specs.declared.State.the-variants.{Idle, Active, Waiting}
@@ -19,7 +19,7 @@ use Rattle.rules.specs.declared.Kind.{Kind}
 use Rattle.rules.specs.declared.Kind.the-variants.{Empty, Work, Return, Request, Supply}
 use Rattle.rules.specs.declared.Board.{Board}
 use Rattle.rules.specs.declared.Verdict.{Verdict}
-use Rattle.rules.specs.declared.Verdict.the-variants.{Working, Finished}
+use Rattle.rules.specs.declared.Verdict.the-variants.{Working, Finished, Refused}
 
 pub idle-is : (k : State) → isIdle k ≡ true → k ≡ Idle
 idle-is Idle e = refl
@@ -27,7 +27,7 @@ idle-is Active e = cc
 idle-is Waiting e = cc
 
 -- the verdict on a sound board is told from the debt
-pub verdict-sound : (b : Board) → Sound b → verdict b ≡ cond (eqb (b .debt) 0) Finished Working
+pub verdict-sound : (b : Board) → Sound b → verdict b ≡ toldFrom (b .debt)
 unfolding verdict
 verdict-sound b h = rw (sound-tested b h)
 
@@ -99,3 +99,18 @@ module _ (b : Board) (h : Sound b) where
 
   pub finished-complete : (verdict b ≡ Finished) ↔ Complete b
   finished-complete = (λ e. complete-of (finished-debt b h e), λ c. debt-finished b h (debt-of c))
+
+-- ---- of any board: one that is not sound is refused, so it is never finished
+pub finished-sound : (b : Board) → verdict b ≡ Finished → Sound b
+unfolding verdict
+finished-sound b e = by-test (sound b) refl e
+  where
+    distinct : _≡_ {A = Verdict} (Refused 30) Finished → ⊥
+    distinct z = let o : _≡_ {A = ℕ} 0 1 = cc in omega arith
+
+    by-test : (t : Bool) → sound b ≡ t → cond t (toldFrom (b .debt)) (Refused 30) ≡ Finished → Sound b
+    by-test true s q = sound-claims b s
+    by-test false s q = absurd (distinct q)
+
+pub finished-tells : (b : Board) → (verdict b ≡ Finished → Complete b) × (sound b ≡ true → Complete b → verdict b ≡ Finished)
+finished-tells b = (λ e. finished-complete b (finished-sound b e) .0 e, λ s c. finished-complete b (sound-claims b s) .1 c)

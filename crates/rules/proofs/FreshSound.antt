@@ -1,5 +1,6 @@
--- The fresh board of an accepted opening is sound, and has nothing out.
+-- The fresh board of an accepted opening is sound, and has nothing out; the blank board of a refused one is not sound.
 use mathlib.Core.Path.{_≡_, refl, sym, ap, subst, _∙_}
+use mathlib.Core.Bool.{false}
 use mathlib.Core.List.{List, [], _∷_, _++_}
 use Prim.Native.Nat.{ℕ, zero, suc, _+_, _-_, _≤_, _<_}
 use native.Mathlib.Nat.{le-of-suc-le-suc}
@@ -8,7 +9,7 @@ use lib.ListN.{length, getD, replicate, length-append, length-replicate, getD-re
 use lib.Seq.{getD-append-add}
 use Rattle.rules.specs.Facts.{Claims, Each, below}
 use Rattle.rules.specs.Words.{blankUnit, blankSlot}
-use Rattle.rules.specs.Sound.{parentRow, unitRow, slotRow, pendingRow, pendingIn, pending, unitsWeight, slotsWeight, Sound}
+use Rattle.rules.specs.Sound.{parentRow, unitRow, slotRow, pendingRow, pendingIn, pending, unitsWeight, slotsWeight, Sound, sound}
 use Rattle.rules.specs.Opening.{lowerParents, openingChecks, fresh, blankBoard, opening}
 use Rattle.rules.proofs.FactLaws.{asked, each-claims, each-at, each-of, judge-passed}
 use Rattle.rules.proofs.SumLaws.{sum-none}
@@ -85,3 +86,8 @@ module _ (m d : ℕ) (ps : List ℕ) (c : Claims (asked (openingChecks m d ps)))
       sum-none (λ j y. y .weight) (b .slots) blankSlot (λ j l. blank-at 256 j blankSlot (λ (y : Slot). y .weight ≡ 0) l refl),
     );
   }
+
+-- having no unit
+pub blank-unsound : sound blankBoard ≡ false
+unfolding blankBoard sound
+blank-unsound = refl

@@ -6,6 +6,7 @@ pub mod Changes
 pub mod Accepted
 pub mod StepFits
 pub mod FreshSound
+pub mod AcceptedChanges
 pub mod ListLaws
 pub mod FinishedLaws
 pub mod DepthLaws

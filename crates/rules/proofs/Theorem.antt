@@ -1,4 +1,4 @@
--- The guarantee holds, for every accepted opening and every list of steps; and on a finished board every step but a start is refused.
+-- The guarantee holds, for every accepted opening and every list of steps. On a finished board all was taken back, and every step but a start is refused.
 use mathlib.Core.Path.{_≡_, refl, sym, ap, subst, _∙_}
 use mathlib.Core.List.{List, [], _∷_, _++_}
 use Prim.Native.Nat.{ℕ, _+_, _*_}
@@ -11,12 +11,13 @@ use Rattle.rules.specs.Depths.{greatestDepth}
 use Rattle.rules.specs.Opening.{fresh, opening}
 use Rattle.rules.specs.Steps.{step}
 use Rattle.rules.specs.Lists.{after}
-use Rattle.rules.specs.Drains.{Quiet, Complete, Drain, waitingUnits, returnsUnderWay, drainBound}
-use Rattle.rules.specs.Guarantee.{Guaranteed, Guarantee, Carries, FinishedRefuses}
+use Rattle.rules.specs.Finished.{Complete}
+use Rattle.rules.specs.Drains.{Quiet, Drain, waitingUnits, returnsUnderWay, drainBound}
+use Rattle.rules.specs.Guarantee.{Guaranteed, Guarantee, Carries, FinishedAllBack, FinishedRefuses}
 use Rattle.rules.proofs.SumLaws.{sum-none}
 use Rattle.rules.proofs.FreshSound.{opening-passed, opening-fresh, fresh-sound}
 use Rattle.rules.proofs.ListLaws.{list-keeps-sound, list-account}
-use Rattle.rules.proofs.FinishedLaws.{finished-complete}
+use Rattle.rules.proofs.FinishedLaws.{finished-debt, finished-complete}
 use Rattle.rules.proofs.DrainLaws.{quiet-drains}
 use Rattle.rules.specs.declared.State.{State}
 use Rattle.rules.specs.declared.Kind.{Kind}
@@ -56,6 +57,13 @@ unfolding Guarantee
 carries b rs m d ps qs e q =
     let f : Board = opening m d ps .board in
     subst (λ (c : Board). Guaranteed f (qs ++ rs) c) (after-append f qs rs ∙ ap (λ (x : Board). after x rs) (sym q)) (guarantee m d ps (qs ++ rs) e)
+
+-- ---- a finished board owes nothing, so what came in was taken back
+pub finished-all-back : FinishedAllBack
+unfolding Guarantee FinishedAllBack
+finished-all-back m d ps rs e f =
+    let g = guarantee m d ps rs e in
+    omega (arith, g .accounted, finished-debt (after (opening m d ps .board) rs) (g .is-sound) f)
 
 -- ---- a finished board is quiet and its bound on drains is 0, so no step but a start is accepted
 complete-quiet : (b : Board) → Complete b → Quiet b

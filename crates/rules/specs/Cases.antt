@@ -9,7 +9,8 @@ use Rattle.rules.specs.Sound.{Sound}
 use Rattle.rules.specs.Opening.{opening}
 use Rattle.rules.specs.Steps.{share, message, step}
 use Rattle.rules.specs.Lists.{after, answers}
-use Rattle.rules.specs.Drains.{verdict, Quiet, Drain, drainBound}
+use Rattle.rules.specs.Finished.{verdict}
+use Rattle.rules.specs.Drains.{Quiet, Drain, drainBound}
 use Rattle.rules.specs.declared.State.the-variants.{Active}
 use Rattle.rules.specs.declared.Kind.the-variants.{Request}
 use Rattle.rules.specs.declared.Board.{Board}
@@ -91,6 +92,8 @@ rows =
     ∷ shares 3 1
     ∷ shares 2047 1023
     ∷ shares 2048 1024
+    ∷ shares 2050 1024
+    ∷ shares 4095 1024
     ∷ shares 16777216 1024
     ∷ runs 11 0 (0 ∷ []) (toWeightOne (send 1 0 10 ∷ [])) (allAccepted 13 (33 ∷ [])) Working
     ∷ runs 1 0 [] (start 0 ∷ start 0 ∷ []) (0 ∷ 37 ∷ []) Working

@@ -1,37 +1,22 @@
--- Finished, and drains: the accepted steps after which no new work can come.
+-- Drains: the accepted steps after which no new work can come, and the most of them that there can be.
 use mathlib.Core.Path.{_≡_}
-use mathlib.Core.Bool.{false, cond}
+use mathlib.Core.Bool.{false}
 use mathlib.Core.List.{List, [], _∷_}
 use Prim.Native.Nat.{ℕ, _+_, _*_}
-use lib.Dec.{eqb}
-use Rattle.rules.specs.Facts.{check, holds, judge, oneIf, sumOf}
+use Rattle.rules.specs.Facts.{oneIf, sumOf}
 use Rattle.rules.specs.Words.{isActive, isWaiting, isWork, isReturn, unitAt, slotAt}
-use Rattle.rules.specs.Sound.{sound}
 use Rattle.rules.specs.Depths.{greatestDepth}
 use Rattle.rules.specs.Steps.{step}
 use Rattle.rules.specs.Lists.{startCount}
-use Rattle.rules.specs.declared.State.the-variants.{Idle}
-use Rattle.rules.specs.declared.Kind.the-variants.{Empty}
 use Rattle.rules.specs.declared.Board.{Board}
 use Rattle.rules.specs.declared.StepRecord.{StepRecord}
-use Rattle.rules.specs.declared.Verdict.{Verdict}
-use Rattle.rules.specs.declared.Verdict.the-variants.{Working, Finished, Refused}
-
--- "Finished means debt 0, and is told from the debt of a sound board; an unsound one gets 30"
-unfoldable pub verdict : Board → Verdict
-verdict b = judge Refused (check (holds (sound b)) 30 ∷ []) (cond (eqb (b .debt) 0) Finished Working)
-
--- every unit is idle and every slot empty
-pub record Complete (b : Board) : Type 0 where
-  pub idle : (i : ℕ) → unitAt b i .state ≡ Idle
-  pub empty : (j : ℕ) → slotAt b j .kind ≡ Empty
 
 -- no unit is active and no work is under way: where a drain begins
 pub record Quiet (b : Board) : Type 0 where
   pub none-active : (i : ℕ) → isActive (unitAt b i .state) ≡ false
   pub no-work : (j : ℕ) → isWork (slotAt b j .kind) ≡ false
 
--- "A drain is a list of accepted steps, none a start"; the list of no steps is one
+-- drain, the rules' own term: "A drain is a list of accepted steps, none a start"; the list of no steps is one
 abbrev pub DrainStep : Board → StepRecord → Type 0
 DrainStep b r = (step b r .answer ≡ 0) × (startCount b r ≡ 0)
 

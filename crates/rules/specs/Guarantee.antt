@@ -1,4 +1,4 @@
--- The guarantee, demand 3: one claim about every accepted opening and every list of steps, in whatever order.
+-- The guarantee: one claim about every accepted opening and every list of steps, in whatever order.
 use mathlib.Core.Path.{_≡_}
 use mathlib.Core.List.{List, _++_}
 use mathlib.Core.Logic.{_↔_}
@@ -9,7 +9,8 @@ use Rattle.rules.specs.Sound.{Sound, weightOut}
 use Rattle.rules.specs.Opening.{opening}
 use Rattle.rules.specs.Steps.{step}
 use Rattle.rules.specs.Lists.{after, tally, startCount, grantCount, takenCount}
-use Rattle.rules.specs.Drains.{verdict, Complete, Quiet, Drain, DrainStep, drainBound}
+use Rattle.rules.specs.Finished.{verdict, Complete}
+use Rattle.rules.specs.Drains.{Quiet, Drain, DrainStep, drainBound}
 use Rattle.rules.specs.declared.Board.{Board}
 use Rattle.rules.specs.declared.StepRecord.{StepRecord}
 use Rattle.rules.specs.declared.Verdict.the-variants.{Finished}
@@ -61,3 +62,13 @@ FinishedRefuses =
     (m d : ℕ) (ps : List ℕ) (rs : List StepRecord) (r : StepRecord) → opening m d ps .answer ≡ 0
     → verdict (after (opening m d ps .board) rs) ≡ Finished → startCount (after (opening m d ps .board) rs) r ≡ 0
     → step (after (opening m d ps .board) rs) r .answer ≡ 0 → ⊥
+
+-- on a finished board that a list left, unit 0 took back all that starts and grants brought in
+unfoldable pub FinishedAllBack : Type 0
+FinishedAllBack =
+    (m d : ℕ) (ps : List ℕ) (rs : List StepRecord) → opening m d ps .answer ≡ 0 → verdict (after (opening m d ps .board) rs) ≡ Finished
+    → tally takenCount (opening m d ps .board) rs ≡ grant * (tally startCount (opening m d ps .board) rs + tally grantCount (opening m d ps .board) rs)
+
+-- an accepted step never leaves the board as it was
+unfoldable pub AcceptedChanges : Type 0
+AcceptedChanges = (b : Board) (r : StepRecord) → step b r .answer ≡ 0 → step b r .board ≡ b → ⊥

@@ -7,6 +7,7 @@ pub mod Depths
 pub mod Steps
 pub mod Letters
 pub mod Lists
+pub mod Finished
 pub mod Drains
 pub mod Guarantee
 pub mod Runs

@@ -1,4 +1,4 @@
--- A run over a list of steps on a lent board, with a lent buffer for the answers.
+-- A run over a list of steps on a lent board, with a lent buffer for the answers; and a batch, the same by value with the debts.
 use mathlib.Core.Bool.{cond}
 use mathlib.Core.List.{List, [], _∷_, _++_}
 use Prim.Native.Nat.{ℕ, suc, _-_}

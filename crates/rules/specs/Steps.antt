@@ -22,7 +22,7 @@ use Rattle.rules.specs.declared.StepRecord.{StepRecord}
 use Rattle.rules.specs.declared.Shared.{Shared}
 use Rattle.rules.specs.declared.Outcome.{Outcome}
 
--- "Share": 2^10 if W is at least 2^11, else half of W rounded down
+-- share, the rules' own term: 2^10 if W is at least 2^11, else half of W rounded down
 abbrev pub share : ℕ → ℕ
 share w = cond (leb 2048 w) 1024 (w / 2)
 
@@ -101,7 +101,7 @@ supplied x w = record { weight = x .weight + w; countdown = x .countdown; state 
 abbrev pub returnEffect : ℕ → ℕ → UnitRecord → Slot → Effect
 returnEffect debt d x y = cond (eqb (y .to) 0) (OnSlot blankSlot (debt - y .weight)) (OnBoth (returned d x (y .weight) (x .state)) blankSlot debt)
 
--- x is the receiver. A request becomes the supply to its sender, and the debt grows
+-- x is the receiver. A request becomes the supply to its sender, and the debt grows. The refusal is not reached: the check before it refuses
 abbrev pub deliverEffect : ℕ → ℕ → UnitRecord → Slot → Kind → Effect
 deliverEffect debt d x y Empty = Refused 35
 deliverEffect debt d x y Work = OnBoth (worked x (y .weight)) blankSlot debt
@@ -173,9 +173,9 @@ placeChecks n m r Rest = check (below (r .unit) n) 13 ∷ []
 placeChecks n m r Tick = check (below (r .unit) n) 13 ∷ []
 placeChecks n m r Release = check (below (r .unit) n) 13 ∷ check (below (r .slot) m) 14 ∷ []
 
--- the rest of each bracket, on the records that the step may change: the unit x and the slot y
+-- the rest of each bracket, on the records that the step may change: the unit x and the slot y. 16 kind outside 1 to 7, which no board passes
 abbrev pub recordChecks : ℕ → UnitRecord → Slot → Action → List Check
-recordChecks debt x y Unknown = []
+recordChecks debt x y Unknown = check (holds false) 16 ∷ []
 recordChecks debt x y Start = startChecks debt
 recordChecks debt x y Send = sendChecks x y
 recordChecks debt x y RequestStep = requestChecks x y
@@ -184,7 +184,7 @@ recordChecks debt x y Rest = restChecks x
 recordChecks debt x y Tick = tickChecks x
 recordChecks debt x y Release = releaseChecks x y
 
--- what an accepted step does on them; p is the unit's parent. 16 kind outside 1 to 7
+-- what an accepted step does on them; p is the unit's parent. The refusal is not reached: the check before it refuses
 abbrev pub recordEffect : ℕ → ℕ → StepRecord → UnitRecord → ℕ → Slot → Action → Effect
 recordEffect debt d r x p y Unknown = Refused 16
 recordEffect debt d r x p y Start = startEffect

@@ -1,9 +1,10 @@
 // The records of the weight board. What they mean is in specs/: each definition there cites its part of the rules.
+// "The rules' own term" marks the place of a word that the rules bring in.
 ghost use mathlib.Core.Path.{_≡_};
-ghost use Rattle.rules.specs.Words.{isIdle, isActive, isWaiting, isEmpty, isRequest};
+ghost use Rattle.rules.specs.Words.{isIdle, isActive, isWaiting, isEmpty};
 ghost use Rattle.rules.specs.Steps.{shared};
 
-// The state of a unit. Waiting is the state between resting and giving its weight back.
+// The state of a unit. Waiting, the rules' own term, is the state between resting and giving its weight back.
 pub enum State {
     Idle,
     Active,
@@ -21,39 +22,39 @@ pub enum Kind {
 
 // A unit: 16 bytes, since the board is copied by value.
 pub struct UnitRecord {
-    pub weight: u64,
-    pub countdown: u16,
-    pub state: State,
-    pub suspended: bool,
+    pub weight: u64, // the rules' own term: its part of the debt, given away in shares and handed back
+    pub countdown: u16, // of a waiting unit: the ticks until it may release
+    pub state: State, // idle, active or waiting
+    pub suspended: bool, // the rules' own term: it has requested weight, and the supply has not arrived
 }
 
 // A slot of the cable: 16 bytes.
 pub struct Slot {
-    pub weight: u64,
-    pub from: u16,
-    pub to: u16,
-    pub kind: Kind,
+    pub weight: u64, // under way with the message: none with a request
+    pub from: u16, // the unit that sent it
+    pub to: u16, // the unit that it is for
+    pub kind: Kind, // empty where no message is under way
 }
 
-// The weight board: n units and m slots are in use, and the weight `debt` is still out.
+// The weight board. A caller may hand over any; which are sound is tested.
 pub struct Board {
-    pub n: u16,
-    pub m: u16,
-    pub delay: u16,
-    pub debt: u64,
-    pub parents: [u16; 64],
-    pub units: [UnitRecord; 64],
-    pub slots: [Slot; 256],
+    pub n: u16, // units in use, 1 to 64; unit 0 is the root, and tells the end
+    pub m: u16, // slots in use, 1 to 256
+    pub delay: u16, // the countdown that a wait begins with, 0 to 255
+    pub debt: u64, // the rules' own term: the weight still out
+    pub parents: [u16; 64], // the parent of each unit, lower than the unit; 0 for unit 0
+    pub units: [UnitRecord; 64], // blank from n on
+    pub slots: [Slot; 256], // blank from m on
 }
 
 // One step as a caller asks for it: a kind from 1 to 7, and the fields that the kind has a letter for.
 // Callers in other languages lend lists of it, so its layout is C's.
 #[repr(C)]
 pub struct StepRecord {
-    pub kind: u16,
-    pub unit: u16,
-    pub other: u16,
-    pub slot: u16,
+    pub kind: u16, // start, send, request, deliver, rest, tick, release, from 1 on
+    pub unit: u16, // u: the unit that takes the step
+    pub other: u16, // v: the unit that a send is for
+    pub slot: u16, // s: the slot to fill, or to deliver
 }
 
 // A step's kind by name; Unknown stands for every number outside 1 to 7.
@@ -101,6 +102,12 @@ pub enum Ran {
     Refused(u16),
 }
 
+// The weight that a start or a granted request brings in: 2^24.
+pub const GRANT: u64 = 16777216;
+
+// The most that the debt may be: 2^40.
+pub const CEILING: u64 = 1099511627776;
+
 // The most steps of a batch: the test of soundness and the copies of the board, once for each batch, are then a small part of its cost.
 pub const BATCH: usize = 512;
 
@@ -113,10 +120,10 @@ pub struct Batch {
     pub debts: [u64; BATCH],
 }
 
-// A unit's share: what it keeps, and the weight that it gives away.
+// A unit that gave a share.
 pub struct Shared {
-    pub unit: UnitRecord,
-    pub given: u64,
+    pub unit: UnitRecord, // with the weight that it keeps
+    pub given: u64, // the rules' own term: the share, the weight that it gives away
 }
 
 impl State {
@@ -181,18 +188,6 @@ impl Kind {
             Kind::Work => false,
             Kind::Return => false,
             Kind::Request => false,
-            Kind::Supply => false,
-        }
-    }
-
-    pub fn is_request(self) -> bool
-        ensures { λ r. ⌜ r ≡ isRequest self ⌝ }
-    {
-        match self {
-            Kind::Empty => false,
-            Kind::Work => false,
-            Kind::Return => false,
-            Kind::Request => true,
             Kind::Supply => false,
         }
     }

@@ -1,7 +1,7 @@
 -- The texts of a listing: its heading and its lines, each ended by byte 10.
 use mathlib.Core.List.{List, [], _∷_, _++_}
 use Prim.Native.Nat.{ℕ}
-use Rattle.rules.specs.Drains.{verdict}
+use Rattle.rules.specs.Finished.{verdict}
 use Rattle.rules.specs.declared.Board.{Board}
 use Rattle.rules.specs.declared.Verdict.{Verdict}
 use Rattle.rules.specs.declared.Verdict.the-variants.{Working, Finished, Refused}

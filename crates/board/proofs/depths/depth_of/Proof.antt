@@ -24,17 +24,17 @@ is-so c = sym (c .before .is-sound .ensures) ∙ not-false (c .before .is-sound 
 
 returns-2 : tie.Need-returns-2
 unfolding depthAnswer
-returns-2 c = rw (is-so (c .before .before), lt-leb _ _ (suc-le-suc (c .if2 .taken)))
+returns-2 c = rw (is-so (c .before), lt-leb _ _ (suc-le-suc (c .if2 .taken)))
 
 depth-along-requires : tie.Need-depth-along-requires
 depth-along-requires c κs =
-    let at = c .before .before .before .before in
+    let at = c .before .before .before in
     let h : Sound (at .before .before .args .b) = sound-claims (at .before .before .args .b) (is-so at) in
     (omega (arith, h .s1-sizes), λ i p q. parent-below (at .before .before .args .b) h i p (omega arith))
 
 returns-3 : tie.Need-returns-3
 unfolding depthAnswer
-returns-3 c = rw (is-so (c .before .before .before .before .before), le-leb _ _ (c .before .before .before .if2 .left)) (ap Deep (c .depth-along .ensures))
+returns-3 c = rw (is-so (c .before .before .before .before), le-leb _ _ (c .before .before .before .if2 .left)) (ap Deep (c .depth-along .ensures))
 
 pub depth-of-spec : {M : Type 1} → statement M
 depth-of-spec =

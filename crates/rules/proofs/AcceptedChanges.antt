@@ -1,0 +1,86 @@
+-- An accepted step never leaves the board as it was: its debt, its unit or its slot differs from what stood there.
+use mathlib.Core.Path.{_≡_, refl, sym, ap, _∙_}
+use mathlib.Core.Bool.{Bool, true, false, cond}
+use mathlib.Core.List.{List}
+use Prim.Native.Nat.{ℕ, _-_, _<_}
+use native.Mathlib.Omega.{arith}
+use lib.ListN.{getD, set}
+use lib.Dec.{eqb}
+use lib.Seq.{getD-set-same}
+use Rattle.rules.specs.Words.{isActive, isEmpty, isRequest, blankUnit, blankSlot, parentAt, unitAt, slotAt}
+use Rattle.rules.specs.Sound.{Sound}
+use Rattle.rules.specs.Steps.{waitingWith, returned, unitOf, slotOf, deliverEffect, recordEffect, applied, step, actionOf}
+use Rattle.rules.specs.Guarantee.{AcceptedChanges}
+use Rattle.rules.proofs.FactLaws.{true-not-false}
+use Rattle.rules.proofs.Accepted.{AcceptedAs, accepted-sound, accepted-as}
+use Rattle.rules.specs.declared.Kind.{Kind}
+use Rattle.rules.specs.declared.Kind.the-variants.{Empty, Work, Return, Request, Supply}
+use Rattle.rules.specs.declared.Action.{Action}
+use Rattle.rules.specs.declared.Action.the-variants.{Unknown, Start, Send, Request as RequestStep, Deliver, Rest, Tick, Release}
+use Rattle.rules.specs.declared.Effect.the-variants.{OnUnit, OnSlot, OnBoth}
+use Rattle.rules.specs.declared.UnitRecord.{UnitRecord}
+use Rattle.rules.specs.declared.Slot.{Slot}
+use Rattle.rules.specs.declared.Board.{Board}
+use Rattle.rules.specs.declared.StepRecord.{StepRecord}
+use Rattle.rules.specs.declared.Outcome.{Outcome}
+
+module _ (b : Board) (r : StepRecord) (h : Sound b) where
+  -- ---- where the board stays as it was, what is stored stood there before
+  unit-stays : (u : ℕ) (x : UnitRecord) → u < b .n → set (b .units) u x ≡ b .units → x ≡ unitAt b u
+  unit-stays u x l e = sym (getD-set-same (b .units) u x blankUnit (omega (arith, h .s1-sizes, l))) ∙ ap (λ (us : List UnitRecord). getD us u blankUnit) e
+
+  slot-stays : (s : ℕ) (y : Slot) → s < b .m → set (b .slots) s y ≡ b .slots → y ≡ slotAt b s
+  slot-stays s y l e = sym (getD-set-same (b .slots) s y blankSlot (omega (arith, h .s1-sizes, l))) ∙ ap (λ (ys : List Slot). getD ys s blankSlot) e
+
+  -- a slot that was empty is filled
+  fills : (s : ℕ) (y : Slot) → s < b .m → isEmpty (slotAt b s .kind) ≡ true → isEmpty (y .kind) ≡ false → set (b .slots) s y ≡ b .slots → ⊥
+  fills s y l before after e = true-not-false (sym before ∙ sym (ap (λ (z : Slot). isEmpty (z .kind)) (slot-stays s y l e)) ∙ after)
+
+  -- a slot that was filled is emptied
+  empties : (s : ℕ) → s < b .m → isEmpty (slotAt b s .kind) ≡ false → set (b .slots) s blankSlot ≡ b .slots → ⊥
+  empties s l before e = true-not-false (ap (λ (z : Slot). isEmpty (z .kind)) (slot-stays s blankSlot l e) ∙ before)
+
+  -- an active unit is no longer active
+  quiets : (u : ℕ) (x : UnitRecord) → u < b .n → isActive (unitAt b u .state) ≡ true → isActive (x .state) ≡ false → set (b .units) u x ≡ b .units → ⊥
+  quiets u x l before after e = true-not-false (sym before ∙ sym (ap (λ (z : UnitRecord). isActive (z .state)) (unit-stays u x l e)) ∙ after)
+
+  -- ---- each action
+  deliver-changes : AcceptedAs b r Deliver → (k : Kind) → slotAt b (r .slot) .kind ≡ k
+      → applied b (slotAt b (r .slot) .to) (r .slot) (deliverEffect (b .debt) (b .delay) (unitAt b (slotAt b (r .slot) .to)) (slotAt b (r .slot)) k) .board ≡ b → ⊥
+  unfolding applied
+  deliver-changes c Empty q e = true-not-false (sym (ap isEmpty q) ∙ c .records .0)
+  deliver-changes c Work q e = empties (r .slot) (c .places .0) (c .records .0) (ap (λ (d : Board). d .slots) e)
+  deliver-changes c Return q e = by-receiver (eqb (slotAt b (r .slot) .to) 0) e
+    where
+      by-receiver : (t : Bool)
+          → applied b (slotAt b (r .slot) .to) (r .slot) (cond t (OnSlot blankSlot (b .debt - slotAt b (r .slot) .weight)) (OnBoth (returned (b .delay) (unitAt b (slotAt b (r .slot) .to)) (slotAt b (r .slot) .weight) (unitAt b (slotAt b (r .slot) .to) .state)) blankSlot (b .debt))) .board ≡ b
+          → ⊥
+      by-receiver true p = empties (r .slot) (c .places .0) (c .records .0) (ap (λ (d : Board). d .slots) p)
+      by-receiver false p = empties (r .slot) (c .places .0) (c .records .0) (ap (λ (d : Board). d .slots) p)
+  deliver-changes c Request q e = true-not-false (sym (ap isRequest q) ∙ sym (ap (λ (z : Slot). isRequest (z .kind)) (slot-stays (r .slot) _ (c .places .0) (ap (λ (d : Board). d .slots) e))))
+  deliver-changes c Supply q e = empties (r .slot) (c .places .0) (c .records .0) (ap (λ (d : Board). d .slots) e)
+
+  rest-changes : AcceptedAs b r Rest → (t : Bool)
+      → applied b (r .unit) 0 (cond t (OnUnit blankUnit (b .debt - unitAt b (r .unit) .weight)) (OnUnit (waitingWith (unitAt b (r .unit) .weight) (b .delay)) (b .debt))) .board ≡ b → ⊥
+  unfolding applied
+  rest-changes c true e = quiets (r .unit) _ (c .places .0) (c .records .0) refl (ap (λ (d : Board). d .units) e)
+  rest-changes c false e = quiets (r .unit) _ (c .places .0) (c .records .0) refl (ap (λ (d : Board). d .units) e)
+
+  changes : (a : Action) → AcceptedAs b r a
+      → applied b (unitOf b r a) (slotOf r a) (recordEffect (b .debt) (b .delay) r (unitAt b (unitOf b r a)) (parentAt b (unitOf b r a)) (slotAt b (slotOf r a)) a) .board ≡ b → ⊥
+  unfolding applied
+  changes Unknown c e = true-not-false (sym (c .records .0))
+  changes Start c e = omega (arith, c .records, ap (λ (d : Board). d .debt) e)
+  changes Send c e = fills (r .slot) _ (c .places .1 .1 .0) (c .records .1 .1 .0) refl (ap (λ (d : Board). d .slots) e)
+  changes RequestStep c e = fills (r .slot) _ (c .places .1 .0) (c .records .1 .1 .1 .0) refl (ap (λ (d : Board). d .slots) e)
+  changes Deliver c e = deliver-changes c (slotAt b (r .slot) .kind) refl e
+  changes Rest c e = rest-changes c (eqb (r .unit) 0) e
+  changes Tick c e = omega (arith, c .records, ap (λ (x : UnitRecord). x .countdown) (unit-stays (r .unit) _ (c .places .0) (ap (λ (d : Board). d .units) e)))
+  changes Release c e = fills (r .slot) _ (c .places .1 .0) (c .records .1 .1 .0) refl (ap (λ (d : Board). d .slots) e)
+
+pub accepted-changes : AcceptedChanges
+unfolding AcceptedChanges
+accepted-changes b r z e =
+    let h : Sound b = accepted-sound b r z in
+    let c = accepted-as b r h (actionOf (r .kind)) refl z in
+    changes b r h (actionOf (r .kind)) c (sym (ap (λ (o : Outcome). o .board) (c .gives)) ∙ e)
