@@ -88,11 +88,12 @@ partWithin (suc k) c s room = cond (stops c s room) (record { text = []; next = 
 abbrev pub part : Cursor → List ℕ → ℕ → Piece
 part c s room = partWithin (suc (length s)) c s room
 
--- 26, then 30, of a cursor behind the beginning; 27 where not even the next piece fits
+-- 26, then 30, of a cursor that no listing of this script leads to; 27 where not even the next piece fits. A cursor behind the whole listing
+-- is never refused: its part is empty. (At the beginning, a script that is too long is no refusal of the call: the listing itself tells 26)
 abbrev pub partChecks : Cursor → List ℕ → ℕ → List Check
 partChecks c s room =
-    check (holds (not (c .begun) || leb (length s) 65535)) 26
-    ∷ check (holds (not (c .begun) || sound (c .board))) 30
+    check (holds (not (c .begun) || ended c s || leb (length s) 65535)) 26
+    ∷ check (holds (not (c .begun) || ended c s || sound (c .board))) 30
     ∷ check (holds (ended c s || leb (length (piece c s .text)) room)) 27
     ∷ []
 
