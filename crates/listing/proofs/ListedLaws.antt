@@ -75,7 +75,7 @@ later-text n b (l ∷ ls) =
 -- ---- the board of an accepted board line
 -- what a line that passed its checks says opens that board, or is a step, which opens none
 reached-by : (ps : List ℕ) (w : ℕ) (vs : List ℕ) → firstOutcome ps (readingBy w vs) .answer ≡ 0 → Reached (firstOutcome ps (readingBy w vs) .board)
-unfolding opening after
+unfolding after
 reached-by ps zero vs e = record { m = getD vs 0 0; d = getD vs 1 0; parents = ps; steps = []; accepted = e; leads = refl }
 reached-by ps (suc k) vs e = absurd (omega (arith, e))
 

@@ -65,9 +65,8 @@ opening-starts s m d ps l = by-checks (judged refusedBy (openingChecks m d ps) (
     by-checks (failed k p q) = refused k p q
 
 first-starts : (s ps : List ℕ) (x : Reading) → length s ≤ 65535 → ((k : ℕ) → x ≡ Refused k → Number k) → Started s (firstOutcome ps x)
-unfolding opening
 first-starts s ps (Opens m d n) l f = opening-starts s m d ps l
-first-starts s ps (Asks r) l f = opening-starts s 0 0 [] l
+first-starts s ps (Asks r) l f = refused 25 (omega arith) refl
 first-starts s ps (Refused k) l f = refused k (f k refl) refl
 
 -- the checks that stand before a first line
@@ -86,14 +85,14 @@ starts s = by-checks (judged refusedBy (startChecks s) first (omega arith))
         subst (Started s) (sym (judge-passed refusedBy (startChecks s) first c)) (first-starts s (parentsOf (upTo 10 s)) (reading true (upTo 10 s)) (c .0) (reading-number true (upTo 10 s)))
     by-checks (failed k p q) = refused k p q
 
--- the three cases of the outcome; a refused opening has the blank board
+-- the three cases of the outcome
 module _ (s : List ℕ) where
-  pub start-long : 65535 < length s → startOutcome s ≡ record { answer = 26; board = opening 0 0 [] .board }
-  unfolding startOutcome opening
+  pub start-long : 65535 < length s → startOutcome s ≡ refusedBy 26
+  unfolding startOutcome
   start-long l = rw (lt-leb (length s) 65535 l)
 
-  pub start-empty : length s ≤ 65535 → length s < 1 → startOutcome s ≡ record { answer = 25; board = opening 0 0 [] .board }
-  unfolding startOutcome opening
+  pub start-empty : length s ≤ 65535 → length s < 1 → startOutcome s ≡ refusedBy 25
+  unfolding startOutcome
   start-empty l m = rw (le-leb (length s) 65535 l, lt-leb 1 (length s) m)
 
   pub start-first : length s ≤ 65535 → 1 ≤ length s → startOutcome s ≡ firstOutcome (parentsOf (upTo 10 s)) (reading true (upTo 10 s))

@@ -5,7 +5,7 @@ use Prim.Native.Nat.{ℕ, zero, suc}
 use lib.ListN.{length}
 use lib.Dec.{eqb}
 use Rattle.rules.specs.Facts.{check, atMost, judge}
-use Rattle.rules.specs.Opening.{opening}
+use Rattle.rules.specs.Opening.{blankBoard, opening}
 use Rattle.rules.specs.Steps.{step}
 use Rattle.rules.specs.declared.Board.{Board}
 use Rattle.rules.specs.declared.Outcome.{Outcome}
@@ -37,8 +37,8 @@ laterText n b (l ∷ ls) = boardText n (lineOutcome b (reading false l) .answer)
 -- the first line opens the board, by its parents ps, or the listing is one refused line. (A step there has been refused by 25)
 abbrev pub firstOutcome : List ℕ → Reading → Outcome
 firstOutcome ps (Opens m d n) = opening m d ps
-firstOutcome ps (Asks r) = opening 0 0 []
-firstOutcome ps (Refused k) = record { answer = k; board = opening 0 0 [] .board }
+firstOutcome ps (Asks r) = record { answer = 25; board = blankBoard }
+firstOutcome ps (Refused k) = record { answer = k; board = blankBoard }
 
 abbrev pub openedText : Outcome → List (List ℕ) → List ℕ
 openedText o ls = cond (eqb (o .answer) 0) (boardText 0 0 (o .board) ++ laterText 1 (o .board) ls) (refusedText (o .answer))

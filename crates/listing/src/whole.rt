@@ -2,7 +2,7 @@
 use crate::Cursor;
 use crate::parts::list_part;
 use crate::rows::bytes_of;
-use crate::starting::no_opening;
+use crate::starting::blank_board;
 use placing::Wrote;
 ghost use mathlib.Core.Path.{_≡_};
 ghost use lib.ListN.{length};
@@ -14,8 +14,7 @@ ghost use Rattle.listing.specs.Parts.{beginning, ended};
 pub fn beginning() -> Cursor
     ensures { λ c. ⌜ c ≡ beginning ⌝ }
 {
-    let o = no_opening();
-    let board = o.board;
+    let board = blank_board();
     Cursor {
         begun: false,
         at: 0,

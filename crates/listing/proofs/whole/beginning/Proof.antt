@@ -1,18 +1,16 @@
--- `whole::beginning` meets its contract: a refused opening has the blank board.
+-- `whole::beginning` meets its contract: its board is the blank one.
 use mathlib.Core.Path.{ap}
 use mathlib.Core.Bool.{false}
-use Rattle.rules.specs.Opening.{opening}
-use Rattle.rules.specs.declared.Outcome.{Outcome}
+use Rattle.rules.specs.declared.Board.{Board}
 use borrow.Author.Needs.{needs}
 use Rattle.listing.proofs.whole.beginning.Statement.{statement}
 use Rattle.listing.proofs.whole.beginning.Tie as tie
 
-no-opening-requires : tie.Need-no-opening-requires
-no-opening-requires c κs = search needs
+blank-board-requires : tie.Need-blank-board-requires
+blank-board-requires c κs = search needs
 
 returns : tie.Need-returns
-unfolding opening
-returns c = ap (λ (o : Outcome). record { begun = false; at = 0; line = 0; board = o .board }) (c .before .no-opening .ensures)
+returns c = ap (λ (b : Board). record { begun = false; at = 0; line = 0; board = b }) (c .blank-board .ensures)
 
 pub beginning-spec : {M : Type 1} → statement M
-beginning-spec = tie.close (tie.spec no-opening-requires returns)
+beginning-spec = tie.close (tie.spec blank-board-requires returns)
