@@ -9,8 +9,9 @@ use borrow.Author.Tests.{eq-eqb, ne-eqb}
 use Rattle.rules.proofs.SoundLaws.{below-or-not}
 use Rattle.rules.specs.declared.Outcome.{Outcome}
 use Rattle.fields.specs.Fields.{upTo}
+use Rattle.listing.specs.Scripts.{startOutcome}
 use Rattle.listing.specs.Parts.{Piece, beginning, ended, behind, firstPiece, laterPiece, piece, restWithin, rest, longestLine, ListingBound}
-use Rattle.listing.specs.Turns.{startOutcome, startPlace}
+use Rattle.listing.specs.Turns.{startPlace}
 use Rattle.listing.proofs.StartLaws.{Started, opened, refused, starts, startCursor, start-next}
 use Rattle.listing.proofs.PieceLaws.{piece-later, later-begun, turns, past-fewer, piece-fewer, rest-piece, rest-beginning}
 use Rattle.listing.proofs.LengthLaws.{later-most, Kept, not-begun-kept, piece-kept, piece-most}
@@ -34,7 +35,7 @@ rest-most (suc k) c s h b = by-end (ended c s) refl (rest-most k (piece c s .nex
 
 -- the turns that the first piece leaves
 start-turns : (s : List ℕ) (o : Outcome) → Started s o → length s - startPlace s (o .answer) ≤ 65534
-start-turns s o (opened l e h d) =
+start-turns s o (opened l e h d f) =
     let p : startPlace s (o .answer) ≡ behind 0 s = ap (λ (t : Bool). cond t (behind 0 s) (length s)) (eq-eqb (o .answer) 0 e) in
     below-or-not 0 (length s) (λ some. omega (arith, p, l, past-fewer 0 s some)) (λ none. omega arith)
 start-turns s o (refused k n e) =

@@ -19,8 +19,9 @@ use Rattle.placing.specs.Placing.{wrote, written}
 use Rattle.placing.proofs.WriteLaws.{wrote-fits, wrote-short, written-fits, written-short, fits-or-short}
 use Rattle.placing.specs.declared.Wrote.the-variants.{Count, Refused}
 use Rattle.texts.proofs.TextLaws.{stored-then}
+use Rattle.listing.specs.Scripts.{startOutcome}
 use Rattle.listing.specs.Parts.{Piece, ended, firstPiece, laterPiece, piece, stops, before, partWithin, part, partOf, partBuffer}
-use Rattle.listing.specs.Turns.{bytesOf, startOutcome, startPlace, cursorOf, Advances}
+use Rattle.listing.specs.Turns.{bytesOf, startPlace, cursorOf, Advances}
 use Rattle.texts.specs.Texts.{heading, lineText, boardText}
 use Rattle.listing.proofs.StartLaws.{Started, starts, startCursor, start-text, start-next, start-sound}
 use Rattle.listing.proofs.PartLaws.{none, part-stopped, empty-stops, part-then}

@@ -9,7 +9,7 @@ use lib.ListN.{length, drop, length-drop}
 use lib.Seq.{drop-drop}
 use lib.Dec.{eqb}
 use Rattle.fields.specs.Fields.{upTo, past}
-use Rattle.listing.specs.Scripts.{linesWithin}
+use Rattle.listing.specs.Scripts.{linesWithin, linesOf}
 use Rattle.listing.specs.Parts.{behind}
 
 pub past-length : (e : ℕ) (l : List ℕ) → length (past e l) ≤ length l
@@ -51,7 +51,7 @@ behind-drop at s l =
     let k : at + (length (drop at s) - length (past 10 (drop at s))) ≡ behind at s = omega arith in
     ap (λ (j : ℕ). drop j s) (sym k) ∙ sym (drop-drop (length (drop at s) - length (past 10 (drop at s))) at s) ∙ sym e
 
-pub lines-enough : (k j : ℕ) (s : List ℕ) → length s ≤ k → length s ≤ j → linesWithin k s ≡ linesWithin j s
+lines-enough : (k j : ℕ) (s : List ℕ) → length s ≤ k → length s ≤ j → linesWithin k s ≡ linesWithin j s
 unfolding linesWithin
 lines-enough zero zero s p q = refl
 lines-enough zero (suc j) [] p q = refl
@@ -62,3 +62,9 @@ lines-enough (suc k) (suc j) [] p q = refl
 lines-enough (suc k) (suc j) (c ∷ cs) p q =
     let n = past-shorter 10 c cs in
     ap (λ (ls : List (List ℕ)). upTo 10 (c ∷ cs) ∷ ls) (lines-enough k j (past 10 (c ∷ cs)) (omega arith) (omega arith))
+
+-- the lines behind the first
+pub lines-behind : (k : ℕ) (s : List ℕ) → length s ≤ k → linesWithin (suc k) (past 10 s) ≡ drop 1 (linesOf s)
+unfolding linesWithin past
+lines-behind k [] p = refl
+lines-behind k (c ∷ cs) p = lines-enough (suc k) (length cs) (past 10 (c ∷ cs)) (omega (arith, p, past-shorter 10 c cs)) (past-shorter 10 c cs)

@@ -1,32 +1,29 @@
 -- The guarantee of a listing holds: each of its boards is one that an accepted opening and a list of steps led to.
 use mathlib.Core.Path.{_≡_, refl, sym, ap, subst, _∙_}
-use mathlib.Core.Bool.{Bool, true, false, cond}
+use mathlib.Core.Bool.{Bool, false, cond}
 use mathlib.Core.List.{List, [], _∷_, _++_}
 use mathlib.Core.Logic.{_↔_}
-use Prim.Native.Nat.{ℕ, zero, suc}
+use Prim.Native.Nat.{ℕ, suc}
 use native.Mathlib.Omega.{arith}
-use lib.ListN.{length, getD}
-use borrow.Author.Tests.{le-leb, eq-eqb}
+use lib.ListN.{drop}
+use borrow.Author.Tests.{eq-eqb}
 use Rattle.rules.specs.Opening.{opening}
 use Rattle.rules.specs.Steps.{step}
 use Rattle.rules.specs.Lists.{after}
 use Rattle.rules.specs.Drains.{verdict, Complete}
 use Rattle.rules.specs.Guarantee.{Guarantee}
-use Rattle.rules.proofs.FactLaws.{judge-passed}
-use Rattle.rules.proofs.JudgeLaws.{Judged, passed, failed, judged}
 use Rattle.rules.proofs.Theorem.{guarantee, after-append}
 use Rattle.rules.specs.declared.Board.{Board}
 use Rattle.rules.specs.declared.StepRecord.{StepRecord}
 use Rattle.rules.specs.declared.Outcome.{Outcome}
 use Rattle.rules.specs.declared.Verdict.{Verdict}
 use Rattle.rules.specs.declared.Verdict.the-variants.{Working, Finished, Refused}
-use Rattle.fields.specs.Fields.{fieldOf}
-use Rattle.script.specs.Words.{wordNumber}
-use Rattle.script.specs.Lines.{arguments, values, lineChecks, readingBy, reading, parentsOf}
+use Rattle.script.specs.Lines.{reading}
 use Rattle.script.specs.declared.Reading.{Reading}
 use Rattle.script.specs.declared.Reading.the-variants.{Opens, Asks, Refused as LineRefused}
 use Rattle.texts.specs.Texts.{heading, finishedWord, stateWord, boardText, refusedText}
-use Rattle.listing.specs.Scripts.{linesOf, lineOutcome, laterText, firstOutcome, linesText, listing}
+use Rattle.listing.specs.Scripts.{linesOf, lineOutcome, laterText, startOutcome, listing}
+use Rattle.listing.proofs.StartLaws.{Started, opened, refused, starts}
 use Rattle.listing.specs.Listed.{Line, textOf, laterLines, Reached, Says, AllSay, ListingGuarantee}
 
 -- ---- the word finished stands for the verdict finished alone
@@ -73,32 +70,23 @@ later-text n b (l ∷ ls) =
     ap (λ (x : List ℕ). boardText n (lineOutcome b (reading false l) .answer) (lineOutcome b (reading false l) .board) ++ x) (later-text (suc n) (lineOutcome b (reading false l) .board) ls)
 
 -- ---- the board of an accepted board line
--- what a line that passed its checks says opens that board, or is a step, which opens none
-reached-by : (ps : List ℕ) (w : ℕ) (vs : List ℕ) → firstOutcome ps (readingBy w vs) .answer ≡ 0 → Reached (firstOutcome ps (readingBy w vs) .board)
+reached-start : (s : List ℕ) → startOutcome s .answer ≡ 0 → Reached (startOutcome s .board)
 unfolding after
-reached-by ps zero vs e = record { m = getD vs 0 0; d = getD vs 1 0; parents = ps; steps = []; accepted = e; leads = refl }
-reached-by ps (suc k) vs e = absurd (omega (arith, e))
-
-reached-first : (ps l : List ℕ) → firstOutcome ps (reading true l) .answer ≡ 0 → Reached (firstOutcome ps (reading true l) .board)
-unfolding reading
-reached-first ps l e = by-checks (judged LineRefused (lineChecks true l) (readingBy (wordNumber (fieldOf 0 l)) (values (arguments l))) (omega arith))
+reached-start s e = by-start (starts s)
   where
-    by-checks : Judged LineRefused (lineChecks true l) (readingBy (wordNumber (fieldOf 0 l)) (values (arguments l))) → Reached (firstOutcome ps (reading true l) .board)
-    by-checks (passed c) =
-        subst (λ (x : Reading). firstOutcome ps x .answer ≡ 0 → Reached (firstOutcome ps x .board)) (sym (judge-passed LineRefused (lineChecks true l) (readingBy (wordNumber (fieldOf 0 l)) (values (arguments l))) c))
-        (reached-by ps (wordNumber (fieldOf 0 l)) (values (arguments l))) e
-    by-checks (failed k p q) = absurd (omega (arith, p, sym (ap (λ (x : Reading). firstOutcome ps x .answer) q) ∙ e))
+    by-start : Started s (startOutcome s) → Reached (startOutcome s .board)
+    by-start (opened l q h d f) = record { m = f .m; d = f .d; parents = f .parents; steps = []; accepted = sym (ap (λ (o : Outcome). o .answer) (f .is)) ∙ q; leads = ap (λ (o : Outcome). o .board) (f .is) }
+    by-start (refused k p q) = absurd (omega (arith, p, e, ap (λ (o : Outcome). o .answer) q))
 
 pub listing-guarantee : ListingGuarantee
-unfolding ListingGuarantee listing linesText textOf
-listing-guarantee s l ls short lines e =
-    let o : Outcome = firstOutcome (parentsOf l) (reading true l) in
-    let reached = reached-first (parentsOf l) l e in
+unfolding ListingGuarantee listing textOf
+listing-guarantee s e =
+    let o : Outcome = startOutcome s in
+    let ls : List (List ℕ) = drop 1 (linesOf s) in
+    let reached = reached-start s e in
     record {
       text =
-          ap (λ (t : Bool). heading ++ cond t (linesText (linesOf s)) (refusedText 26)) (le-leb (length s) 65535 short)
-          ∙ ap (λ (xs : List (List ℕ)). heading ++ linesText xs) lines
-          ∙ ap (λ (t : Bool). heading ++ cond t (boardText 0 0 (o .board) ++ laterText 1 (o .board) ls) (refusedText (o .answer))) (eq-eqb (o .answer) 0 e)
+          ap (λ (t : Bool). heading ++ cond t (boardText 0 0 (o .board) ++ laterText 1 (o .board) ls) (refusedText (o .answer))) (eq-eqb (o .answer) 0 e)
           ∙ ap (λ (x : List ℕ). heading ++ (boardText 0 0 (o .board) ++ x)) (later-text 1 (o .board) ls);
       says = (reached-says _ reached, later-say 1 (o .board) ls reached);
     }

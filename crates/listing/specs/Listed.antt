@@ -1,19 +1,18 @@
 -- The guarantee of a listing: after an accepted board line, each line says finished exactly when its board has every unit idle and every slot empty.
 use mathlib.Core.Path.{_≡_}
-use mathlib.Core.Bool.{true, false}
+use mathlib.Core.Bool.{false}
 use mathlib.Core.List.{List, [], _∷_, _++_}
 use mathlib.Core.Logic.{_↔_}
-use Prim.Native.Nat.{ℕ, suc, _≤_}
-use lib.ListN.{length}
+use Prim.Native.Nat.{ℕ, suc}
+use lib.ListN.{drop}
 use Rattle.rules.specs.Opening.{opening}
 use Rattle.rules.specs.Lists.{after}
 use Rattle.rules.specs.Drains.{verdict, Complete}
 use Rattle.rules.specs.declared.Board.{Board}
 use Rattle.rules.specs.declared.StepRecord.{StepRecord}
-use Rattle.rules.specs.declared.Outcome.{Outcome}
-use Rattle.script.specs.Lines.{reading, parentsOf}
+use Rattle.script.specs.Lines.{reading}
 use Rattle.texts.specs.Texts.{heading, finishedWord, stateWord, boardText}
-use Rattle.listing.specs.Scripts.{linesOf, lineOutcome, firstOutcome, listing}
+use Rattle.listing.specs.Scripts.{linesOf, lineOutcome, startOutcome, listing}
 
 -- a line of a listing: the script line's number, its answer, and the board after it
 pub record Line : Type 0 where
@@ -50,12 +49,13 @@ abbrev pub AllSay : List Line → Type 0
 AllSay [] = Unit {0}
 AllSay (l ∷ ls) = Says l × AllSay ls
 
--- the lines of a listing whose board line o was accepted, with the script lines ls behind it
-pub record Listed (s : List ℕ) (o : Outcome) (ls : List (List ℕ)) : Type 0 where
-  pub text : listing s ≡ heading ++ textOf (record { number = 0; answer = 0; board = o .board } ∷ laterLines 1 (o .board) ls)
-  pub says : AllSay (record { number = 0; answer = 0; board = o .board } ∷ laterLines 1 (o .board) ls)
+-- the lines of a listing whose board line was accepted
+abbrev pub linesListed : List ℕ → List Line
+linesListed s = record { number = 0; answer = 0; board = startOutcome s .board } ∷ laterLines 1 (startOutcome s .board) (drop 1 (linesOf s))
+
+pub record Listed (s : List ℕ) : Type 0 where
+  pub text : listing s ≡ heading ++ textOf (linesListed s)
+  pub says : AllSay (linesListed s)
 
 unfoldable pub ListingGuarantee : Type 0
-ListingGuarantee =
-    (s l : List ℕ) (ls : List (List ℕ)) → length s ≤ 65535 → linesOf s ≡ l ∷ ls → firstOutcome (parentsOf l) (reading true l) .answer ≡ 0
-    → Listed s (firstOutcome (parentsOf l) (reading true l)) ls
+ListingGuarantee = (s : List ℕ) → startOutcome s .answer ≡ 0 → Listed s

@@ -6,15 +6,15 @@ use Prim.Native.Nat.{ℕ, zero, suc, _+_, _-_, _*_, _≤_, min}
 use lib.ListN.{length, drop}
 use lib.Seq.{sets}
 use lib.Dec.{leb, eqb}
-use Rattle.rules.specs.Facts.{Check, check, atMost, holds, judge}
+use Rattle.rules.specs.Facts.{Check, check, holds, judge}
 use Rattle.rules.specs.Sound.{sound}
 use Rattle.rules.specs.Opening.{blankBoard}
 use Rattle.rules.specs.declared.Outcome.{Outcome}
 use Rattle.placing.specs.declared.Wrote.the-variants.{Count, Refused}
 use Rattle.fields.specs.Fields.{upTo, past}
-use Rattle.script.specs.Lines.{reading, parentsOf}
+use Rattle.script.specs.Lines.{reading}
 use Rattle.texts.specs.Texts.{heading, boardText, refusedText}
-use Rattle.listing.specs.Scripts.{lineOutcome, firstOutcome, listing}
+use Rattle.listing.specs.Scripts.{lineOutcome, startOutcome, listing}
 use Rattle.listing.specs.declared.Cursor.{Cursor}
 use Rattle.listing.specs.declared.Part.{Part}
 
@@ -44,11 +44,8 @@ openedPiece s o =
     (record { text = heading ++ boardText 0 0 (o .board); next = record { begun = true; at = behind 0 s; line = 1; board = o .board } })
     (refusedPiece s (o .answer))
 
--- 26 script over 65,535 bytes, before all; 25 first line missing
 unfoldable pub firstPiece : List ℕ → Piece
-firstPiece s =
-    judge (refusedPiece s) (check (atMost (length s) 65535) 26 ∷ check (atMost 1 (length s)) 25 ∷ [])
-    (openedPiece s (firstOutcome (parentsOf (upTo 10 s)) (reading true (upTo 10 s))))
+firstPiece s = openedPiece s (startOutcome s)
 
 -- a line number has 32 bits: the numbers of a script's lines are far below, a cursor of a caller's own may reach the end of them
 abbrev pub nextNumber : ℕ → ℕ

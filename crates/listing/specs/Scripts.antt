@@ -2,9 +2,9 @@
 use mathlib.Core.Bool.{true, false, cond}
 use mathlib.Core.List.{List, [], _∷_, _++_}
 use Prim.Native.Nat.{ℕ, zero, suc}
-use lib.ListN.{length}
+use lib.ListN.{length, drop}
 use lib.Dec.{eqb}
-use Rattle.rules.specs.Facts.{check, atMost, judge}
+use Rattle.rules.specs.Facts.{Check, check, atMost, judge}
 use Rattle.rules.specs.Opening.{blankBoard, opening}
 use Rattle.rules.specs.Steps.{step}
 use Rattle.rules.specs.declared.Board.{Board}
@@ -34,20 +34,27 @@ unfoldable pub laterText : ℕ → Board → List (List ℕ) → List ℕ
 laterText n b [] = []
 laterText n b (l ∷ ls) = boardText n (lineOutcome b (reading false l) .answer) (lineOutcome b (reading false l) .board) ++ laterText (suc n) (lineOutcome b (reading false l) .board) ls
 
+-- ---- the start of a script: the outcome of its first line
+abbrev pub refusedBy : ℕ → Outcome
+refusedBy k = record { answer = k; board = blankBoard }
+
 -- the first line opens the board, by its parents ps, or the listing is one refused line. (A step there has been refused by 25)
 abbrev pub firstOutcome : List ℕ → Reading → Outcome
 firstOutcome ps (Opens m d n) = opening m d ps
-firstOutcome ps (Asks r) = record { answer = 25; board = blankBoard }
-firstOutcome ps (Refused k) = record { answer = k; board = blankBoard }
+firstOutcome ps (Asks r) = refusedBy 25
+firstOutcome ps (Refused k) = refusedBy k
 
+-- 26 script over 65,535 bytes, before all; 25 first line missing: a script of no byte has none
+abbrev pub startChecks : List ℕ → List Check
+startChecks s = check (atMost (length s) 65535) 26 ∷ check (atMost 1 (length s)) 25 ∷ []
+
+unfoldable pub startOutcome : List ℕ → Outcome
+startOutcome s = judge refusedBy (startChecks s) (firstOutcome (parentsOf (upTo 10 s)) (reading true (upTo 10 s)))
+
+-- ---- the listing
+-- behind the heading: the board line's own line and those of the script lines ls behind it, or one refused line
 abbrev pub openedText : Outcome → List (List ℕ) → List ℕ
 openedText o ls = cond (eqb (o .answer) 0) (boardText 0 0 (o .board) ++ laterText 1 (o .board) ls) (refusedText (o .answer))
 
--- 25 first line missing
-unfoldable pub linesText : List (List ℕ) → List ℕ
-linesText [] = refusedText 25
-linesText (l ∷ ls) = openedText (firstOutcome (parentsOf l) (reading true l)) ls
-
--- 26 script over 65,535 bytes, before all
 unfoldable pub listing : List ℕ → List ℕ
-listing s = heading ++ judge refusedText (check (atMost (length s) 65535) 26 ∷ []) (linesText (linesOf s))
+listing s = heading ++ openedText (startOutcome s) (drop 1 (linesOf s))

@@ -20,8 +20,8 @@ ghost use Rattle.script.specs.Lines.{reading, parentsOf};
 ghost use Rattle.script.specs.declared.Reading.the-variants.{Opens};
 ghost use Rattle.placing.specs.Placing.{wrote, written};
 ghost use Rattle.texts.specs.Texts.{heading, lineText};
-ghost use Rattle.listing.specs.Scripts.{firstOutcome};
-ghost use Rattle.listing.specs.Turns.{bytesOf, startOutcome, startPlace};
+ghost use Rattle.listing.specs.Scripts.{refusedBy, firstOutcome, startOutcome};
+ghost use Rattle.listing.specs.Turns.{bytesOf, startPlace};
 
 // What a refused opening hands back: one of no slot is.
 pub(crate) fn blank_board() -> Board
@@ -34,7 +34,7 @@ pub(crate) fn blank_board() -> Board
 }
 
 fn refused(answer: u16) -> Outcome
-    ensures { λ o. ⌜ o ≡ record { answer = answer; board = blankBoard } ⌝ }
+    ensures { λ o. ⌜ o ≡ refusedBy answer ⌝ }
 {
     let board = blank_board();
     Outcome { answer, board }
