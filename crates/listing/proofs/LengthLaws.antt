@@ -24,7 +24,7 @@ use Rattle.script.specs.declared.Reading.the-variants.{Opens, Asks, Refused}
 use Rattle.decimal.specs.Spelling.{digitCount}
 use Rattle.decimal.proofs.CountLaws.{count-bound}
 use Rattle.texts.specs.Texts.{heading, refusedWord, stateWord, lineText, boardText, refusedText}
-use Rattle.listing.specs.Scripts.{lineOutcome, startOutcome}
+use Rattle.listing.specs.Scripts.{lineOutcome, laterOutcome, startOutcome}
 use Rattle.listing.specs.Parts.{Piece, ended, behind, openedPiece, firstPiece, nextNumber, laterPiece, piece, stops, before, partWithin, longestPiece, longestLine}
 use Rattle.listing.specs.Batches.{linesAt, batchText}
 use Rattle.listing.specs.Turns.{startPlace}
@@ -61,9 +61,9 @@ outcome-sound b (Opens m d n) h = h
 outcome-sound b (Asks r) h = step-keeps-sound b r h
 outcome-sound b (Refused k) h = h
 
-pub later-most : (n : ℕ) (b : Board) (l : List ℕ) → n ≤ 4294967295 → Sound b → length (boardText n (lineOutcome b (reading false l) .answer) (lineOutcome b (reading false l) .board)) ≤ longestLine
+pub later-most : (n : ℕ) (b : Board) (l : List ℕ) → n ≤ 4294967295 → Sound b → length (boardText n (laterOutcome b l .answer) (laterOutcome b l .board)) ≤ longestLine
 later-most n b l p h =
-    line-most n _ _ (verdict (lineOutcome b (reading false l) .board)) p (outcome-short b (reading false l) (λ k e. reading-number false l k e .1)) (outcome-sound b (reading false l) h .s5-s6-debt .1 .0)
+    line-most n _ _ (verdict (laterOutcome b l .board)) p (outcome-short b (reading false l) (λ k e. reading-number false l k e .1)) (outcome-sound b (reading false l) h .s5-s6-debt .1 .0)
 
 -- ---- a batch of lines
 pub number-fits : (n : ℕ) → nextNumber n ≤ 4294967295
@@ -73,7 +73,7 @@ pub batch-most : (n : ℕ) (b : Board) (ls : List (List ℕ)) → n ≤ 42949672
 unfolding batchText
 batch-most n b [] p h = omega arith
 batch-most n b (l ∷ ls) p h =
-    omega (arith, length-append (boardText n (lineOutcome b (reading false l) .answer) (lineOutcome b (reading false l) .board)) (batchText (nextNumber n) (lineOutcome b (reading false l) .board) ls), later-most n b l p h, batch-most (nextNumber n) (lineOutcome b (reading false l) .board) ls (number-fits n) (outcome-sound b (reading false l) h))
+    omega (arith, length-append (boardText n (laterOutcome b l .answer) (laterOutcome b l .board)) (batchText (nextNumber n) (laterOutcome b l .board) ls), later-most n b l p h, batch-most (nextNumber n) (laterOutcome b l .board) ls (number-fits n) (outcome-sound b (reading false l) h))
 
 pub lines-most : (k at : ℕ) (s : List ℕ) → length (linesAt k at s) ≤ k
 unfolding linesAt

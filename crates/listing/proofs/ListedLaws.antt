@@ -21,10 +21,10 @@ use Rattle.rules.specs.declared.Verdict.the-variants.{Working, Finished, Refuse
 use Rattle.script.specs.Lines.{reading}
 use Rattle.script.specs.declared.Reading.{Reading}
 use Rattle.script.specs.declared.Reading.the-variants.{Opens, Asks, Refused as LineRefused}
-use Rattle.texts.specs.Texts.{heading, finishedWord, stateWord, boardText, refusedText}
-use Rattle.listing.specs.Scripts.{linesOf, lineOutcome, laterText, startOutcome, listing}
+use Rattle.texts.specs.Texts.{heading, finishedWord, stateWord, refusedText}
+use Rattle.listing.specs.Scripts.{linesOf, lineOutcome, laterOutcome, startOutcome, Line, textOf, laterLines, openedLines, listing}
 use Rattle.listing.proofs.StartLaws.{Started, opened, refused, starts}
-use Rattle.listing.specs.Listed.{Line, textOf, laterLines, Reached, Says, AllSay, ListingGuarantee}
+use Rattle.listing.specs.Listed.{Reached, Says, AllSay, ListingGuarantee}
 
 -- ---- the word finished stands for the verdict finished alone
 word-finished : (v : Verdict) → stateWord v ≡ finishedWord → v ≡ Finished
@@ -61,13 +61,7 @@ unfolding laterLines
 later-say n b [] h = tt
 later-say n b (l ∷ ls) h =
     let next = reached-line b (reading false l) h in
-    (reached-says _ next, later-say (suc n) (lineOutcome b (reading false l) .board) ls next)
-
-later-text : (n : ℕ) (b : Board) (ls : List (List ℕ)) → laterText n b ls ≡ textOf (laterLines n b ls)
-unfolding laterText textOf laterLines
-later-text n b [] = refl
-later-text n b (l ∷ ls) =
-    ap (λ (x : List ℕ). boardText n (lineOutcome b (reading false l) .answer) (lineOutcome b (reading false l) .board) ++ x) (later-text (suc n) (lineOutcome b (reading false l) .board) ls)
+    (reached-says _ next, later-say (suc n) (laterOutcome b l .board) ls next)
 
 -- ---- the board of an accepted board line
 reached-start : (s : List ℕ) → startOutcome s .answer ≡ 0 → Reached (startOutcome s .board)
@@ -79,14 +73,12 @@ reached-start s e = by-start (starts s)
     by-start (refused k p q) = absurd (omega (arith, p, e, ap (λ (o : Outcome). o .answer) q))
 
 pub listing-guarantee : ListingGuarantee
-unfolding ListingGuarantee listing textOf
+unfolding ListingGuarantee listing
 listing-guarantee s e =
     let o : Outcome = startOutcome s in
     let ls : List (List ℕ) = drop 1 (linesOf s) in
     let reached = reached-start s e in
     record {
-      text =
-          ap (λ (t : Bool). heading ++ cond t (boardText 0 0 (o .board) ++ laterText 1 (o .board) ls) (refusedText (o .answer))) (eq-eqb (o .answer) 0 e)
-          ∙ ap (λ (x : List ℕ). heading ++ (boardText 0 0 (o .board) ++ x)) (later-text 1 (o .board) ls);
+      text = ap (λ (t : Bool). heading ++ cond t (textOf (openedLines o ls)) (refusedText (o .answer))) (eq-eqb (o .answer) 0 e);
       says = (reached-says _ reached, later-say 1 (o .board) ls reached);
     }

@@ -11,9 +11,8 @@ use borrow.Author.Tests.{eqb-true, leb-false, le-leb, lt-leb}
 use Rattle.rules.specs.declared.Board.{Board}
 use Rattle.rules.specs.declared.Outcome.{Outcome}
 use Rattle.fields.specs.Fields.{upTo, past}
-use Rattle.script.specs.Lines.{reading}
 use Rattle.texts.specs.Texts.{heading, boardText, refusedText}
-use Rattle.listing.specs.Scripts.{linesWithin, lineOutcome, laterText, startOutcome, openedText, listing}
+use Rattle.listing.specs.Scripts.{linesWithin, laterOutcome, startOutcome, textOf, laterLines, laterText, openedText, listing}
 use Rattle.listing.specs.Parts.{Piece, beginning, ended, behind, refusedPiece, openedPiece, firstPiece, nextNumber, laterPiece, piece, restWithin, rest, stops, before, partWithin}
 use Rattle.listing.proofs.LineLaws.{past-shorter, behind-drop, lines-behind}
 use Rattle.listing.proofs.StartLaws.{start-short, start-next}
@@ -33,7 +32,7 @@ laterCursor at n b = record { begun = true; at = at; line = n; board = b }
 
 -- the outcome of the line at a place
 abbrev pub outcomeAt : ℕ → Board → List ℕ → Outcome
-outcomeAt at b s = lineOutcome b (reading false (upTo 10 (drop at s)))
+outcomeAt at b s = laterOutcome b (upTo 10 (drop at s))
 
 -- behind the beginning the next piece is a later one
 pub piece-later : (c : Cursor) (s : List ℕ) → c .begun ≡ true → piece c s ≡ laterPiece c s
@@ -47,7 +46,7 @@ later-begun c s b = ap (λ (p : Piece). p .next .begun) (piece-later c s b)
 -- what is still to come behind the first line is the text of the lines from the cursor's place on
 rest-later : (k at n : ℕ) (b : Board) (s : List ℕ) → at ≤ length s → n + (length s - at) < 4294967295
     → restWithin k (laterCursor at n b) s ≡ laterText n b (linesWithin k (drop at s))
-unfolding restWithin laterText linesWithin piece laterPiece
+unfolding restWithin textOf laterLines linesWithin piece laterPiece
 rest-later zero at n b s l m = refl
 rest-later (suc k) at n b s l m = by-rest (drop at s) refl (rest-later k (behind at s) (suc n) (outcomeAt at b s .board) s (omega arith))
   where
@@ -62,7 +61,7 @@ rest-later (suc k) at n b s l m = by-rest (drop at s) refl (rest-later k (behind
         ap (λ (t : Bool). cond t [] (boardText n (outcomeAt at b s .answer) (outcomeAt at b s .board) ++ restWithin k (laterPiece (laterCursor at n b) s .next) s)) (lt-leb (length s) at (omega (arith, length-drop at s)))
         ∙ ap (λ (x : ℕ). boardText n (outcomeAt at b s .answer) (outcomeAt at b s .board) ++ restWithin k (laterCursor (behind at s) x (outcomeAt at b s .board)) s) (number-next n (omega (arith, length-drop at s)))
         ∙ ap (λ (x : List ℕ). boardText n (outcomeAt at b s .answer) (outcomeAt at b s .board) ++ x) (ih (omega (arith, length-drop at s)) ∙ ap (λ (t : List ℕ). laterText (suc n) (outcomeAt at b s .board) (linesWithin k t)) (behind-drop at s l))
-        ∙ ap (λ (t : List ℕ). boardText n (lineOutcome b (reading false (upTo 10 t)) .answer) (lineOutcome b (reading false (upTo 10 t)) .board) ++ laterText (suc n) (lineOutcome b (reading false (upTo 10 t)) .board) (linesWithin k (past 10 t))) e
+        ∙ ap (λ (t : List ℕ). boardText n (laterOutcome b (upTo 10 t) .answer) (laterOutcome b (upTo 10 t) .board) ++ laterText (suc n) (laterOutcome b (upTo 10 t) .board) (linesWithin k (past 10 t))) e
 
 -- ---- the beginning
 -- a refused first line is the whole of what comes
@@ -72,6 +71,7 @@ rest-refused k r s = rw (le-leb (length s) (length s) (omega arith)) (append-nil
 
 module _ (k : ℕ) (s : List ℕ) (enough : length s ≤ k) where
   rest-opened : (o : Outcome) → (o .answer ≡ 0 → length s ≤ 65535) → openedPiece s o .text ++ restWithin (suc k) (openedPiece s o .next) s ≡ heading ++ openedText o (linesWithin (suc k) (past 10 s))
+  unfolding textOf
   rest-opened o l = by-answer (eqb (o .answer) 0) refl
     where
       by-answer : (t : Bool) → eqb (o .answer) 0 ≡ t

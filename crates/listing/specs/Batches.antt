@@ -12,7 +12,7 @@ use Rattle.script.specs.declared.Reading.{Reading}
 use Rattle.script.specs.declared.Reading.the-variants.{Opens, Asks, Refused}
 use Rattle.rules.specs.declared.Verdict.the-variants.{Working, Finished}
 use Rattle.texts.specs.Texts.{lineText, boardText}
-use Rattle.listing.specs.Scripts.{lineOutcome}
+use Rattle.listing.specs.Scripts.{laterOutcome}
 use Rattle.listing.specs.Parts.{behind, nextNumber}
 
 -- at most k lines from a place on, and the place behind them
@@ -47,7 +47,7 @@ refusalsOf (l ∷ ls) = refusalOf (reading false l) ∷ refusalsOf ls
 -- ---- the board, the line number and the text after a batch of lines
 unfoldable pub boardAfter : Board → List (List ℕ) → Board
 boardAfter b [] = b
-boardAfter b (l ∷ ls) = boardAfter (lineOutcome b (reading false l) .board) ls
+boardAfter b (l ∷ ls) = boardAfter (laterOutcome b l .board) ls
 
 unfoldable pub numberAfter : ℕ → List (List ℕ) → ℕ
 numberAfter n [] = n
@@ -55,7 +55,7 @@ numberAfter n (l ∷ ls) = numberAfter (nextNumber n) ls
 
 unfoldable pub batchText : ℕ → Board → List (List ℕ) → List ℕ
 batchText n b [] = []
-batchText n b (l ∷ ls) = boardText n (lineOutcome b (reading false l) .answer) (lineOutcome b (reading false l) .board) ++ batchText (nextNumber n) (lineOutcome b (reading false l) .board) ls
+batchText n b (l ∷ ls) = boardText n (laterOutcome b l .answer) (laterOutcome b l .board) ++ batchText (nextNumber n) (laterOutcome b l .board) ls
 
 -- the lines of a batch from what it gives: refusals of bad lines, answers of steps and debts after them
 unfoldable pub rowsText : ℕ → List ℕ → List ℕ → List ℕ → List ℕ

@@ -12,9 +12,8 @@ use Rattle.rules.specs.Opening.{blankBoard}
 use Rattle.rules.specs.declared.Outcome.{Outcome}
 use Rattle.placing.specs.declared.Wrote.the-variants.{Count, Refused}
 use Rattle.fields.specs.Fields.{upTo, past}
-use Rattle.script.specs.Lines.{reading}
 use Rattle.texts.specs.Texts.{heading, boardText, refusedText}
-use Rattle.listing.specs.Scripts.{lineOutcome, startOutcome, listing}
+use Rattle.listing.specs.Scripts.{laterOutcome, startOutcome, listing}
 use Rattle.listing.specs.declared.Cursor.{Cursor}
 use Rattle.listing.specs.declared.Part.{Part}
 
@@ -58,7 +57,7 @@ laterBy c s o = record {
 }
 
 unfoldable pub laterPiece : Cursor → List ℕ → Piece
-laterPiece c s = laterBy c s (lineOutcome (c .board) (reading false (upTo 10 (drop (c .at) s))))
+laterPiece c s = laterBy c s (laterOutcome (c .board) (upTo 10 (drop (c .at) s)))
 
 unfoldable pub piece : Cursor → List ℕ → Piece
 piece c s = cond (c .begun) (laterPiece c s) (firstPiece s)

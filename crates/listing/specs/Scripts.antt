@@ -24,16 +24,6 @@ linesWithin (suc k) (c ∷ cs) = upTo 10 (c ∷ cs) ∷ linesWithin k (past 10 (
 abbrev pub linesOf : List ℕ → List (List ℕ)
 linesOf s = linesWithin (length s) s
 
--- a later line: a step is taken on the board; a bad line leaves the board as it was. (A board line has been refused by 25)
-abbrev pub lineOutcome : Board → Reading → Outcome
-lineOutcome b (Opens m d n) = record { answer = 25; board = b }
-lineOutcome b (Asks r) = step b r
-lineOutcome b (Refused k) = record { answer = k; board = b }
-
-unfoldable pub laterText : ℕ → Board → List (List ℕ) → List ℕ
-laterText n b [] = []
-laterText n b (l ∷ ls) = boardText n (lineOutcome b (reading false l) .answer) (lineOutcome b (reading false l) .board) ++ laterText (suc n) (lineOutcome b (reading false l) .board) ls
-
 -- ---- the start of a script: the outcome of its first line
 abbrev pub refusedBy : ℕ → Outcome
 refusedBy k = record { answer = k; board = blankBoard }
@@ -51,10 +41,42 @@ startChecks s = check (atMost (length s) 65535) 26 ∷ check (atMost 1 (length s
 unfoldable pub startOutcome : List ℕ → Outcome
 startOutcome s = judge refusedBy (startChecks s) (firstOutcome (parentsOf (upTo 10 s)) (reading true (upTo 10 s)))
 
+-- ---- the lines behind it
+-- a step is taken on the board; a bad line leaves the board as it was. (A board line has been refused by 25)
+abbrev pub lineOutcome : Board → Reading → Outcome
+lineOutcome b (Opens m d n) = record { answer = 25; board = b }
+lineOutcome b (Asks r) = step b r
+lineOutcome b (Refused k) = record { answer = k; board = b }
+
+abbrev pub laterOutcome : Board → List ℕ → Outcome
+laterOutcome b l = lineOutcome b (reading false l)
+
 -- ---- the listing
--- behind the heading: the board line's own line and those of the script lines ls behind it, or one refused line
+-- a line of it: the script line's number, its answer, and the board after it
+pub record Line : Type 0 where
+  pub number : ℕ
+  pub answer : ℕ
+  pub board : Board
+
+unfoldable pub textOf : List Line → List ℕ
+textOf [] = []
+textOf (l ∷ ls) = boardText (l .number) (l .answer) (l .board) ++ textOf ls
+
+-- from number n and board b on, for the script lines ls
+unfoldable pub laterLines : ℕ → Board → List (List ℕ) → List Line
+laterLines n b [] = []
+laterLines n b (l ∷ ls) = record { number = n; answer = laterOutcome b l .answer; board = laterOutcome b l .board } ∷ laterLines (suc n) (laterOutcome b l .board) ls
+
+abbrev pub laterText : ℕ → Board → List (List ℕ) → List ℕ
+laterText n b ls = textOf (laterLines n b ls)
+
+-- all lines, where the outcome o of the board line is an accepted one
+abbrev pub openedLines : Outcome → List (List ℕ) → List Line
+openedLines o ls = record { number = 0; answer = 0; board = o .board } ∷ laterLines 1 (o .board) ls
+
+-- else one refused line
 abbrev pub openedText : Outcome → List (List ℕ) → List ℕ
-openedText o ls = cond (eqb (o .answer) 0) (boardText 0 0 (o .board) ++ laterText 1 (o .board) ls) (refusedText (o .answer))
+openedText o ls = cond (eqb (o .answer) 0) (textOf (openedLines o ls)) (refusedText (o .answer))
 
 unfoldable pub listing : List ℕ → List ℕ
 listing s = heading ++ openedText (startOutcome s) (drop 1 (linesOf s))
