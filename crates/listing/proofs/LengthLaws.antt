@@ -2,7 +2,7 @@
 use mathlib.Core.Path.{_≡_, refl, sym, ap, subst, _∙_}
 use mathlib.Core.Bool.{Bool, true, false, cond}
 use mathlib.Core.List.{List, [], _∷_}
-use Prim.Native.Nat.{ℕ, zero, suc, _*_, _-_, _≤_, _<_}
+use Prim.Native.Nat.{ℕ, zero, suc, _-_, _≤_, _<_}
 use native.Mathlib.Omega.{arith}
 use lib.ListN.{length, drop, length-append}
 use lib.Dec.{leb}
@@ -26,7 +26,7 @@ use Rattle.decimal.proofs.CountLaws.{count-bound}
 use Rattle.texts.specs.Texts.{heading, refusedWord, stateWord, lineText, boardText, refusedText}
 use Rattle.listing.specs.Scripts.{lineOutcome, laterOutcome, startOutcome}
 use Rattle.listing.specs.Parts.{Piece, ended, behind, openedPiece, firstPiece, nextNumber, laterPiece, piece, stops, before, partWithin, longestPiece, longestLine}
-use Rattle.listing.specs.Batches.{linesAt, batchText}
+use Rattle.listing.specs.Batches.{linesAt}
 use Rattle.listing.specs.Turns.{startPlace}
 use Rattle.texts.proofs.TextLaws.{line-length}
 use Rattle.listing.proofs.StartLaws.{reading-number, Started, opened, refused, starts, first-opened, refused-piece, first-text, startCursor, first-next}
@@ -68,12 +68,6 @@ later-most n b l p h =
 -- ---- a batch of lines
 pub number-fits : (n : ℕ) → nextNumber n ≤ 4294967295
 number-fits n = omega arith
-
-pub batch-most : (n : ℕ) (b : Board) (ls : List (List ℕ)) → n ≤ 4294967295 → Sound b → length (batchText n b ls) ≤ longestLine * length ls
-unfolding batchText
-batch-most n b [] p h = omega arith
-batch-most n b (l ∷ ls) p h =
-    omega (arith, length-append (boardText n (laterOutcome b l .answer) (laterOutcome b l .board)) (batchText (nextNumber n) (laterOutcome b l .board) ls), later-most n b l p h, batch-most (nextNumber n) (laterOutcome b l .board) ls (number-fits n) (outcome-sound b (reading false l) h))
 
 pub lines-most : (k at : ℕ) (s : List ℕ) → length (linesAt k at s) ≤ k
 unfolding linesAt

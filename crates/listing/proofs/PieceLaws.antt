@@ -12,7 +12,7 @@ use Rattle.rules.specs.declared.Board.{Board}
 use Rattle.rules.specs.declared.Outcome.{Outcome}
 use Rattle.fields.specs.Fields.{upTo, past}
 use Rattle.texts.specs.Texts.{heading, boardText, refusedText}
-use Rattle.listing.specs.Scripts.{linesWithin, laterOutcome, startOutcome, textOf, laterLines, laterText, openedText, listing}
+use Rattle.listing.specs.Scripts.{linesWithin, laterOutcome, startOutcome, textOf, laterLines, openedText, listing}
 use Rattle.listing.specs.Parts.{Piece, beginning, ended, behind, refusedPiece, openedPiece, firstPiece, nextNumber, laterPiece, piece, restWithin, rest, stops, before, partWithin}
 use Rattle.listing.proofs.LineLaws.{past-shorter, behind-drop, lines-behind}
 use Rattle.listing.proofs.StartLaws.{start-short, start-next}
@@ -42,6 +42,9 @@ piece-later c s b = ap (λ (t : Bool). cond t (laterPiece c s) (firstPiece s)) b
 pub later-begun : (c : Cursor) (s : List ℕ) → c .begun ≡ true → piece c s .next .begun ≡ true
 unfolding laterPiece
 later-begun c s b = ap (λ (p : Piece). p .next .begun) (piece-later c s b)
+
+abbrev laterText : ℕ → Board → List (List ℕ) → List ℕ
+laterText n b ls = textOf (laterLines n b ls)
 
 -- what is still to come behind the first line is the text of the lines from the cursor's place on
 rest-later : (k at n : ℕ) (b : Board) (s : List ℕ) → at ≤ length s → n + (length s - at) < 4294967295

@@ -20,14 +20,14 @@ use Rattle.rules.specs.declared.Ran.the-variants.{Zeros, Refused}
 use Rattle.fields.specs.Fields.{upTo}
 use Rattle.texts.specs.Texts.{boardText}
 use Rattle.listing.specs.Parts.{Piece, behind, nextNumber, laterPiece, piece, before, partWithin, longestLine}
-use Rattle.listing.specs.Batches.{linesAt, placeAfter, recordsOf, refusalsOf, numberAfter, batchText, rowsText}
+use Rattle.listing.specs.Batches.{linesAt, placeAfter, recordsOf, refusalsOf}
 use Rattle.listing.specs.Turns.{Gathers, Placed, rowsInto, cursorOf, batchSize, Advances}
 use Rattle.listing.proofs.PieceLaws.{laterCursor, outcomeAt}
 use Rattle.listing.proofs.PartLaws.{none, part-empty}
-use Rattle.listing.proofs.LengthLaws.{batch-most, lines-most}
-use Rattle.listing.proofs.BatchLaws.{batched, part-batched, batch-board, batch-rows}
+use Rattle.listing.proofs.LengthLaws.{lines-most}
+use Rattle.listing.proofs.BatchLaws.{numberAfter, batchText, batch-most, batched, part-batched, batch-board, batch-rows}
 use Rattle.listing.proofs.GatherLaws.{records-length}
-use Rattle.listing.proofs.RowLaws.{numbered, rows-fit, rows-short, rows-padded}
+use Rattle.listing.proofs.RowLaws.{rowsText, numbered, rows-fit, rows-short, rows-padded}
 use Rattle.listing.specs.declared.gathering.Gathered.{Gathered}
 use Rattle.listing.specs.declared.rows.Rows.{Rows}
 use Rattle.listing.specs.declared.turns.Progress.{Progress}

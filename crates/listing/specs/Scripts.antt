@@ -67,9 +67,6 @@ unfoldable pub laterLines : ℕ → Board → List (List ℕ) → List Line
 laterLines n b [] = []
 laterLines n b (l ∷ ls) = record { number = n; answer = laterOutcome b l .answer; board = laterOutcome b l .board } ∷ laterLines (suc n) (laterOutcome b l .board) ls
 
-abbrev pub laterText : ℕ → Board → List (List ℕ) → List ℕ
-laterText n b ls = textOf (laterLines n b ls)
-
 -- all lines, where the outcome o of the board line is an accepted one
 abbrev pub openedLines : Outcome → List (List ℕ) → List Line
 openedLines o ls = record { number = 0; answer = 0; board = o .board } ∷ laterLines 1 (o .board) ls

@@ -1,4 +1,5 @@
 -- What the calls inside a listing in parts give: the place behind the first line, and a batch of lines gathered and written.
+-- For private contracts only; a reader of the claim may skip this.
 use mathlib.Core.Bool.{true, cond}
 use mathlib.Core.List.{List, [], _∷_}
 use mathlib.Core.Path.{_≡_}
