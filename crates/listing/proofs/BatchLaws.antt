@@ -24,7 +24,8 @@ use Rattle.script.specs.declared.Reading.{Reading}
 use Rattle.script.specs.declared.Reading.the-variants.{Opens, Asks, Refused}
 use Rattle.texts.specs.Texts.{lineText, boardText}
 use Rattle.listing.specs.Scripts.{lineOutcome, laterOutcome}
-use Rattle.listing.specs.Parts.{Piece, behind, nextNumber, laterPiece, piece, before, partWithin, longestLine}
+use Rattle.listing.specs.Bounds.{longestLine}
+use Rattle.listing.specs.Parts.{Piece, behind, nextNumber, laterPiece, piece, before, partWithin}
 use Rattle.listing.specs.Batches.{linesAt, placeAfter, recordOf, refusalOf, recordsOf, refusalsOf}
 use Rattle.listing.proofs.StartLaws.{reading-number}
 use Rattle.listing.proofs.PieceLaws.{laterCursor, outcomeAt}

@@ -11,7 +11,8 @@ use Rattle.rules.specs.Facts.{Claims, Check, check, holds, test, judge}
 use Rattle.rules.specs.Sound.{sound}
 use Rattle.rules.proofs.FactLaws.{asked, judge-passed}
 use Rattle.rules.proofs.SoundLaws.{sound-tested}
-use Rattle.listing.specs.Parts.{Piece, beginning, ended, piece, rest, stops, before, partWithin, part, partChecks, callText, callNext, joined, cursorAfter, piecesWithin, pieces, longestPiece, AllAtLeast, PartsJoin}
+use Rattle.listing.specs.Bounds.{longestPiece}
+use Rattle.listing.specs.Parts.{Piece, beginning, ended, piece, rest, stops, before, partWithin, part, partChecks, callText, callNext, joined, cursorAfter, piecesWithin, pieces, AllAtLeast, PartsJoin}
 use Rattle.listing.proofs.PieceLaws.{or-left, turns, piece-fewer, no-turns, turns-most, rest-beginning, rest-end, part-rest}
 use Rattle.listing.proofs.PartLaws.{none, goes-on}
 use Rattle.listing.proofs.LengthLaws.{Kept, not-begun-kept, part-kept, piece-most}

@@ -25,7 +25,8 @@ use Rattle.decimal.specs.Spelling.{digitCount}
 use Rattle.decimal.proofs.CountLaws.{count-bound}
 use Rattle.texts.specs.Texts.{heading, refusedWord, stateWord, lineText, boardText, refusedText}
 use Rattle.listing.specs.Scripts.{lineOutcome, laterOutcome, startOutcome}
-use Rattle.listing.specs.Parts.{Piece, ended, behind, openedPiece, firstPiece, nextNumber, laterPiece, piece, stops, before, partWithin, longestPiece, longestLine}
+use Rattle.listing.specs.Bounds.{longestPiece, longestLine}
+use Rattle.listing.specs.Parts.{Piece, ended, behind, openedPiece, firstPiece, nextNumber, laterPiece, piece, stops, before, partWithin}
 use Rattle.listing.specs.Batches.{linesAt}
 use Rattle.listing.specs.Turns.{startPlace}
 use Rattle.texts.proofs.TextLaws.{line-length}

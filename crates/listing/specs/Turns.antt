@@ -12,7 +12,8 @@ use Rattle.placing.specs.Placing.{wrote, written}
 use Rattle.placing.specs.declared.Wrote.{Wrote}
 use Rattle.placing.specs.declared.Wrote.the-variants.{Count, Refused}
 use Rattle.texts.specs.Texts.{lineText}
-use Rattle.listing.specs.Parts.{behind, nextNumber, partWithin, longestLine}
+use Rattle.listing.specs.Bounds.{longestLine}
+use Rattle.listing.specs.Parts.{behind, nextNumber, partWithin}
 use Rattle.listing.specs.Batches.{recordsOf, refusalsOf}
 use Rattle.listing.specs.declared.Cursor.{Cursor}
 use Rattle.listing.specs.declared.gathering.Gathered.{Gathered}
