@@ -9,10 +9,10 @@ use lib.Dec.{leb}
 use lib.Seq.{sets}
 use borrow.Author.Tests.{lt-leb}
 use Rattle.rules.specs.Sound.{Sound}
-use Rattle.rules.specs.Steps.{step}
 use Rattle.rules.specs.Lists.{after, answers}
 use Rattle.rules.specs.Runs.{debts, zeros, padded, batch}
 use Rattle.rules.proofs.SoundLaws.{sound-tested, below-or-not}
+use Rattle.steps.proofs.BatchLaws.{answers-length, debts-length}
 use Rattle.rules.specs.declared.Board.{Board}
 use Rattle.rules.specs.declared.StepRecord.{StepRecord}
 use Rattle.rules.specs.declared.Batch.{Batch}
@@ -66,16 +66,6 @@ batch-sound : (b : Board) (rs : List StepRecord) → Sound b → batch b rs ≡ 
 unfolding batch
 batch-sound b rs h =
     ap (λ (t : Bool). cond t (batchDone b rs) (record { ran = Refused 30; board = b; answers = padded []; debts = padded [] })) (sound-tested b h)
-
-answers-length : (b : Board) (rs : List StepRecord) → length (answers b rs) ≡ length rs
-unfolding answers
-answers-length b [] = refl
-answers-length b (r ∷ rs) = ap suc (answers-length (step b r .board) rs)
-
-debts-length : (b : Board) (rs : List StepRecord) → length (debts b rs) ≡ length rs
-unfolding debts
-debts-length b [] = refl
-debts-length b (r ∷ rs) = ap suc (debts-length (step b r .board) rs)
 
 refusals-length : (ls : List (List ℕ)) → length (refusalsOf ls) ≡ length ls
 unfolding refusalsOf
