@@ -15,7 +15,8 @@ use Rattle.script.specs.declared.Reading.{Reading}
 use Rattle.script.specs.declared.Reading.the-variants.{Opens, Asks, Refused}
 use Rattle.texts.specs.Texts.{heading, boardText, refusedText}
 
--- lines ended by byte 10; a last line may lack it, and after a last byte 10 no further line begins. A line has at least one byte of the script, its own or its byte 10, so the script's length is turns enough
+-- lines ended by byte 10; a last line may lack it, and after a last byte 10 no further line begins. A line has at least one byte of the
+-- script, its own or its byte 10, so the script's length is turns enough
 unfoldable pub linesWithin : ℕ → List ℕ → List (List ℕ)
 linesWithin zero s = []
 linesWithin (suc k) [] = []

@@ -1,10 +1,10 @@
--- `whole::beginning` meets its contract: its board is the blank one.
+-- `cursors::beginning` meets its contract: its board is the blank one.
 use mathlib.Core.Path.{ap}
 use mathlib.Core.Bool.{false}
 use Rattle.rules.specs.declared.Board.{Board}
 use borrow.Author.Needs.{needs}
-use Rattle.listing.proofs.whole.beginning.Statement.{statement}
-use Rattle.listing.proofs.whole.beginning.Tie as tie
+use Rattle.listing.proofs.cursors.beginning.Statement.{statement}
+use Rattle.listing.proofs.cursors.beginning.Tie as tie
 
 blank-board-requires : tie.Need-blank-board-requires
 blank-board-requires c κs = search needs
