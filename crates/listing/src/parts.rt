@@ -46,11 +46,12 @@ fn list_later(c: Cursor, script: &[u8], out: &mut [u8]) -> Part
     if c.at >= script.len() {
         return kept(Wrote::Count(0), c);
     }
+    let board = c.board;
+    let safe = is_sound(board);
     if script.len() > 65535 {
         return kept(Wrote::Refused(26), c);
     }
-    let board = c.board;
-    if !is_sound(board) {
+    if !safe {
         return kept(Wrote::Refused(30), c);
     }
     let start = Progress {

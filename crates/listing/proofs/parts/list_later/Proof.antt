@@ -15,27 +15,29 @@ returns c =
     let start = c .before .before .before .before .before in
     later-ended (start .args .c) (start .args .script .now) (start .args .out .now) (start .pre) (c .before .if1 .taken) (c .kept .ensures)
 
+is-sound-requires : tie.Need-is-sound-requires
+is-sound-requires c κs = search needs
+
 kept-requires-2 : tie.Need-kept-requires-2
 kept-requires-2 c κs = search needs
 
 returns-2 : tie.Need-returns-2
 returns-2 c =
-    let start = c .before .before .before .before .before .before in
-    later-26 (start .args .c) (start .args .script .now) (start .args .out .now) (start .pre) (c .before .before .if1 .left) (c .before .if2 .taken) (c .kept2 .ensures)
-
-is-sound-requires : tie.Need-is-sound-requires
-is-sound-requires c κs = search needs
+    let tested = c .before .before .before .before in
+    let start = tested .before .before .before .before in
+    later-26 (start .args .c) (start .args .script .now) (start .args .out .now) (start .pre) (tested .if1 .left) (c .before .if2 .taken) (c .kept2 .ensures)
 
 kept-requires-3 : tie.Need-kept-requires-3
 kept-requires-3 c κs = search needs
 
 returns-3 : tie.Need-returns-3
 returns-3 c =
-    let start = c .before .before .before .before .before .before .before .before .before in
-    later-30 (start .args .c) (start .args .script .now) (start .args .out .now) (start .pre) (c .before .before .before .before .before .if1 .left) (c .before .before .before .before .if2 .left) (sym (c .before .before .is-sound .ensures) ∙ not-true _ (c .before .if3 .taken)) (c .kept3 .ensures)
+    let tested = c .before .before .before .before .before in
+    let start = tested .before .before .before .before in
+    later-30 (start .args .c) (start .args .script .now) (start .args .out .now) (start .pre) (tested .if1 .left) (c .before .before .if2 .left) (sym (c .before .before .before .is-sound .ensures) ∙ not-true _ (c .before .if3 .taken)) (c .kept3 .ensures)
 
 list-lines-requires : tie.Need-list-lines-requires
-list-lines-requires c κs = (λ m. sym (c .before .before .is-sound .ensures) ∙ not-false _ (c .before .if3 .left), omega arith)
+list-lines-requires c κs = (λ m. sym (c .before .before .before .is-sound .ensures) ∙ not-false _ (c .before .if3 .left), omega arith)
 
 kept-requires-4 : tie.Need-kept-requires-4
 kept-requires-4 c κs = search needs
@@ -45,9 +47,9 @@ same-length c = search needs
 
 returns-4 : tie.Need-returns-4
 returns-4 c =
-    let tested = c .before .before .before .before .before .before .before in
-    let start = tested .before .before .before .before .before .before .before .before in
-    later-27 (start .args .c) (start .args .script .now) (start .args .out .now) (start .pre) (tested .before .before .before .before .if1 .left) (tested .before .before .before .if2 .left) (sym (tested .before .is-sound .ensures) ∙ not-false _ (tested .if3 .left)) (c .before .before .before .before .before .list-lines .ensures) (c .before .if4 .taken) (c .kept4 .ensures)
+    let safe = c .before .before .before .before .before .before .before in
+    let start = safe .before .before .before .before .before .before .before .before in
+    later-27 (start .args .c) (start .args .script .now) (start .args .out .now) (start .pre) (safe .before .before .before .before .if1 .left) (safe .before .if2 .left) (sym (safe .before .before .is-sound .ensures) ∙ not-false _ (safe .if3 .left)) (c .before .before .before .before .before .list-lines .ensures) (c .before .if4 .taken) (c .kept4 .ensures)
 
 part-at-requires : tie.Need-part-at-requires
 part-at-requires c κs = search needs
@@ -57,9 +59,9 @@ same-length-2 c = search needs
 
 returns-5 : tie.Need-returns-5
 returns-5 c =
-    let tested = c .before .before .before .before .before .before .before in
-    let start = tested .before .before .before .before .before .before .before .before in
-    later-part (start .args .c) (start .args .script .now) (start .args .out .now) (start .pre) (tested .before .before .before .before .if1 .left) (tested .before .before .before .if2 .left) (sym (tested .before .is-sound .ensures) ∙ not-false _ (tested .if3 .left)) (c .before .before .before .before .before .list-lines .ensures) (c .before .if4 .left) (c .part-at .ensures)
+    let safe = c .before .before .before .before .before .before .before in
+    let start = safe .before .before .before .before .before .before .before .before in
+    later-part (start .args .c) (start .args .script .now) (start .args .out .now) (start .pre) (safe .before .before .before .before .if1 .left) (safe .before .if2 .left) (sym (safe .before .before .is-sound .ensures) ∙ not-false _ (safe .if3 .left)) (c .before .before .before .before .before .list-lines .ensures) (c .before .if4 .left) (c .part-at .ensures)
 
 pub list-later-spec : {M : Type 1} → statement M
 list-later-spec =
@@ -67,9 +69,9 @@ list-later-spec =
     (tie.spec
     kept-requires
     returns
+    is-sound-requires
     kept-requires-2
     returns-2
-    is-sound-requires
     kept-requires-3
     returns-3
     list-lines-requires
