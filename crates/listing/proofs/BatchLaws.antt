@@ -2,7 +2,7 @@
 use mathlib.Core.Path.{_≡_, refl, sym, ap, _∙_}
 use mathlib.Core.Bool.{Bool, true, false, not, cond, _||_}
 use mathlib.Core.List.{List, [], _∷_, _++_}
-use Prim.Native.Nat.{ℕ, zero, suc, _-_, _≤_}
+use Prim.Native.Nat.{ℕ, zero, suc, _-_, _*_, _≤_}
 use native.Mathlib.Omega.{arith}
 use lib.ListN.{length, drop, length-append}
 use lib.Dec.{leb, eqb}
@@ -23,12 +23,34 @@ use Rattle.script.specs.Lines.{reading}
 use Rattle.script.specs.declared.Reading.{Reading}
 use Rattle.script.specs.declared.Reading.the-variants.{Opens, Asks, Refused}
 use Rattle.texts.specs.Texts.{lineText, boardText}
-use Rattle.listing.specs.Scripts.{lineOutcome}
+use Rattle.listing.specs.Scripts.{lineOutcome, laterOutcome}
+use Rattle.listing.specs.Bounds.{longestLine}
 use Rattle.listing.specs.Parts.{Piece, behind, nextNumber, laterPiece, piece, before, partWithin}
-use Rattle.listing.specs.Batches.{linesAt, placeAfter, recordOf, refusalOf, recordsOf, refusalsOf, boardAfter, numberAfter, batchText, rowsText}
+use Rattle.listing.specs.Batches.{linesAt, placeAfter, recordOf, refusalOf, recordsOf, refusalsOf}
 use Rattle.listing.proofs.StartLaws.{reading-number}
 use Rattle.listing.proofs.PieceLaws.{laterCursor, outcomeAt}
 use Rattle.listing.proofs.PartLaws.{none}
+use Rattle.listing.proofs.LengthLaws.{outcome-sound, later-most, number-fits}
+use Rattle.listing.proofs.RowLaws.{rowsText}
+
+-- ---- the board, the line number and the text after a batch of lines
+unfoldable pub boardAfter : Board → List (List ℕ) → Board
+boardAfter b [] = b
+boardAfter b (l ∷ ls) = boardAfter (laterOutcome b l .board) ls
+
+unfoldable pub numberAfter : ℕ → List (List ℕ) → ℕ
+numberAfter n [] = n
+numberAfter n (l ∷ ls) = numberAfter (nextNumber n) ls
+
+unfoldable pub batchText : ℕ → Board → List (List ℕ) → List ℕ
+batchText n b [] = []
+batchText n b (l ∷ ls) = boardText n (laterOutcome b l .answer) (laterOutcome b l .board) ++ batchText (nextNumber n) (laterOutcome b l .board) ls
+
+pub batch-most : (n : ℕ) (b : Board) (ls : List (List ℕ)) → n ≤ 4294967295 → Sound b → length (batchText n b ls) ≤ longestLine * length ls
+unfolding batchText
+batch-most n b [] p h = omega arith
+batch-most n b (l ∷ ls) p h =
+    omega (arith, length-append (boardText n (laterOutcome b l .answer) (laterOutcome b l .board)) (batchText (nextNumber n) (laterOutcome b l .board) ls), later-most n b l p h, batch-most (nextNumber n) (laterOutcome b l .board) ls (number-fits n) (outcome-sound b (reading false l) h))
 
 -- ---- the pieces of a batch whose text fits
 unfoldable pub batched : ℕ → ℕ → ℕ → Board → List ℕ → Piece

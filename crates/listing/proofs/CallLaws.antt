@@ -11,7 +11,8 @@ use Rattle.rules.specs.Facts.{Claims, Check, check, holds, test, judge}
 use Rattle.rules.specs.Sound.{sound}
 use Rattle.rules.proofs.FactLaws.{asked, judge-passed}
 use Rattle.rules.proofs.SoundLaws.{sound-tested}
-use Rattle.listing.specs.Parts.{Piece, beginning, ended, piece, rest, stops, before, partWithin, part, partChecks, callText, callNext, joined, cursorAfter, piecesWithin, pieces, longestPiece, AllAtLeast, PartsJoin}
+use Rattle.listing.specs.Bounds.{longestPiece}
+use Rattle.listing.specs.Parts.{Piece, beginning, ended, piece, rest, stops, before, partWithin, part, partChecks, callText, callNext, joined, cursorAfter, piecesWithin, pieces, AllAtLeast, PartsJoin}
 use Rattle.listing.proofs.PieceLaws.{or-left, turns, piece-fewer, no-turns, turns-most, rest-beginning, rest-end, part-rest}
 use Rattle.listing.proofs.PartLaws.{none, goes-on}
 use Rattle.listing.proofs.LengthLaws.{Kept, not-begun-kept, part-kept, piece-most}
@@ -91,8 +92,8 @@ not-refused c s room h e l = by-begun (c .begun) refl
     fits : leb (length (piece c s .text)) room ≡ true
     fits = le-leb (length (piece c s .text)) room (omega (arith, piece-most c s h e))
 
-    by-begun : (t : Bool) → c .begun ≡ t → Claims (asked (check (holds (not t || leb (length s) 65535)) 26 ∷ check (holds (not t || sound (c .board))) 30 ∷ check (holds (ended c s || leb (length (piece c s .text)) room)) 27 ∷ []))
-    by-begun true b = (le-leb (length s) 65535 (h e b .short), (sound-tested (c .board) (h e b .is-sound), (rw (e, fits), tt)))
+    by-begun : (t : Bool) → c .begun ≡ t → Claims (asked (check (holds (not t || ended c s || leb (length s) 65535)) 26 ∷ check (holds (not t || ended c s || sound (c .board))) 30 ∷ check (holds (ended c s || leb (length (piece c s .text)) room)) 27 ∷ []))
+    by-begun true b = (rw (e, le-leb (length s) 65535 (h e b .short)), (rw (e, sound-tested (c .board) (h e b .is-sound)), (rw (e, fits), tt)))
     by-begun false b = (refl, (refl, (rw (e, fits), tt)))
 
 first-empty : (a b : List ℕ) → a ++ b ≡ [] → a ≡ []

@@ -12,15 +12,16 @@ use borrow.Author.Tests.{le-leb, lt-leb, not-true}
 use Rattle.rules.specs.Sound.{sound}
 use Rattle.rules.proofs.FactLaws.{true-or-false}
 use Rattle.rules.specs.Finished.{verdict}
-use Rattle.rules.proofs.SoundLaws.{below-or-not, sound-tested}
+use Rattle.rules.proofs.SoundLaws.{sound-tested}
 use Rattle.rules.specs.declared.Outcome.{Outcome}
 use Rattle.rules.specs.declared.Verdict.{Verdict}
 use Rattle.placing.specs.Placing.{wrote, written}
 use Rattle.placing.proofs.WriteLaws.{wrote-fits, wrote-short, written-fits, written-short, fits-or-short}
 use Rattle.placing.specs.declared.Wrote.the-variants.{Count, Refused}
 use Rattle.texts.proofs.TextLaws.{stored-then}
+use Rattle.listing.specs.Scripts.{startOutcome}
 use Rattle.listing.specs.Parts.{Piece, ended, firstPiece, laterPiece, piece, stops, before, partWithin, part, partOf, partBuffer}
-use Rattle.listing.specs.Turns.{bytesOf, startOutcome, startPlace, cursorOf, Advances}
+use Rattle.listing.specs.Turns.{bytesOf, startPlace, cursorOf, Advances}
 use Rattle.texts.specs.Texts.{heading, lineText, boardText}
 use Rattle.listing.proofs.StartLaws.{Started, starts, startCursor, start-text, start-next, start-sound}
 use Rattle.listing.proofs.PartLaws.{none, part-stopped, empty-stops, part-then}
@@ -41,10 +42,10 @@ counted {r} {n} {m} {c} {d} e f g = e ∙ ap (λ (k : ℕ). record { wrote = Cou
 -- the tests that a call makes, in their order
 module _ (c : Cursor) (s out : List ℕ) where
   abbrev short : Bool
-  short = not (c .begun) || leb (length s) 65535
+  short = not (c .begun) || ended c s || leb (length s) 65535
 
   abbrev kept : Bool
-  kept = not (c .begun) || sound (c .board)
+  kept = not (c .begun) || ended c s || sound (c .board)
 
   abbrev fits : Bool
   fits = ended c s || leb (length (piece c s .text)) (length out)
@@ -75,59 +76,66 @@ or-right : (s t : Bool) → s ≡ false → s || t ≡ t
 or-right s t e = ap (λ (u : Bool). u || t) e
 
 module _ (c : Cursor) (s out : List ℕ) (begun : c .begun ≡ true) where
-  is-short : length s ≤ 65535 → short c s out ≡ true
-  is-short l = rw (begun, le-leb (length s) 65535 l)
-
-  is-kept : sound (c .board) ≡ true → kept c s out ≡ true
-  is-kept e = rw (begun, e)
-
   same-cursor : cursorOf (progressOf c) ≡ c
   same-cursor = ap (λ (t : Bool). record { begun = t; at = c .at; line = c .line; board = c .board }) (sym begun)
 
-  pub later-26 : 65535 < length s → {r : Part} → r ≡ refusedPart 26 c → Gives c s out r out
-  later-26 l e = gives-26 c s out (rw (begun, lt-leb (length s) 65535 l)) e
+  -- behind the whole listing there is nothing to write
+  pub later-ended : length s ≤ c .at → {r : Part} → r ≡ record { wrote = Count 0; cursor = c } → Gives c s out r out
+  later-ended l e =
+      let end : ended c s ≡ true = rw (begun, le-leb (length s) (c .at) l) in
+      let none : part c s (length out) ≡ none c = part-stopped (suc (length s)) c s (length out) (ap (λ (t : Bool). t || not (leb (length (piece c s .text)) (length out))) end) in
+      gives-part c s out (rw (begun, le-leb (length s) (c .at) l)) (rw (begun, le-leb (length s) (c .at) l)) (rw (begun, le-leb (length s) (c .at) l))
+      (counted e (sym (ap (λ (x : Piece). length (x .text)) none)) (sym (ap (λ (x : Piece). x .next) none)))
+      (sym (ap (λ (x : Piece). sets out 0 (x .text)) none))
 
-  pub later-30 : length s ≤ 65535 → sound (c .board) ≡ false → {r : Part} → r ≡ refusedPart 30 c → Gives c s out r out
-  later-30 l u e = gives-30 c s out (is-short l) (rw (begun, u)) e
+  module _ (more : c .at < length s) where
+    not-ended : ended c s ≡ false
+    not-ended = rw (begun, lt-leb (length s) (c .at) more)
 
-  module _ (l : length s ≤ 65535) (safe : sound (c .board) ≡ true) {p : Progress} {left : List ℕ} (a : Advances (suc (length s)) (progressOf c) s out p left) where
-    whole : part (cursorOf (progressOf c)) s (length out - 0) ≡ part c s (length out)
-    whole = ap (λ (x : Cursor). part x s (length out - 0)) same-cursor ∙ ap (part c s) (sub-zero (length out))
+    is-short : length s ≤ 65535 → short c s out ≡ true
+    is-short l = rw (begun, lt-leb (length s) (c .at) more, le-leb (length s) 65535 l)
 
-    written-length : p .to ≡ length (part c s (length out) .text)
-    written-length = omega (arith, a .to, ap (λ (x : Piece). length (x .text)) whole)
+    is-kept : sound (c .board) ≡ true → kept c s out ≡ true
+    is-kept e = rw (begun, lt-leb (length s) (c .at) more, e)
 
-    written-bytes : left ≡ sets out 0 (part c s (length out) .text)
-    written-bytes = a .buffer ∙ ap (λ (x : Piece). sets out 0 (x .text)) whole
+    pub later-26 : 65535 < length s → {r : Part} → r ≡ refusedPart 26 c → Gives c s out r out
+    later-26 l e = gives-26 c s out (rw (begun, lt-leb (length s) (c .at) more, lt-leb (length s) 65535 l)) e
 
-    not-ended : c .at < length s → ended c s ≡ false
-    not-ended m = rw (begun, lt-leb (length s) (c .at) m)
+    pub later-30 : length s ≤ 65535 → sound (c .board) ≡ false → {r : Part} → r ≡ refusedPart 30 c → Gives c s out r out
+    later-30 l u e = gives-30 c s out (is-short l) (rw (begun, lt-leb (length s) (c .at) more, u)) e
 
-    -- not even the next line fits
-    pub later-27 : c .at < length s → p .to ≡ 0 → {r : Part} → r ≡ refusedPart 27 c → Gives c s out r left
-    later-27 m z {r} e =
-        let stop : stops c s (length out) ≡ true = empty-stops (suc (length s)) c s (length out) (omega arith) (omega (arith, written-length, z)) in
-        let none : part c s (length out) ≡ none c = part-stopped (suc (length s)) c s (length out) stop in
-        let no : leb (length (piece c s .text)) (length out) ≡ false = not-true _ (sym (or-right (ended c s) _ (not-ended m)) ∙ stop) in
-        subst (λ (x : List ℕ). Gives c s out r x) (sym (written-bytes ∙ ap (λ (x : Piece). sets out 0 (x .text)) none)) (gives-27 c s out (is-short l) (is-kept safe) (or-right (ended c s) _ (not-ended m) ∙ no) e)
+    module _ (l : length s ≤ 65535) (safe : sound (c .board) ≡ true) {p : Progress} {left : List ℕ} (a : Advances (suc (length s)) (progressOf c) s out p left) where
+      whole : part (cursorOf (progressOf c)) s (length out - 0) ≡ part c s (length out)
+      whole = ap (λ (x : Cursor). part x s (length out - 0)) same-cursor ∙ ap (part c s) (sub-zero (length out))
 
-    -- the next line fits, or there is none
-    is-fitting : (c .at < length s → p .to ≡ 0 → ⊥) → fits c s out ≡ true
-    is-fitting n =
-        below-or-not (c .at) (length s)
-        (λ m.
-        or-right (ended c s) _ (not-ended m)
-        ∙ true-or-false (leb (length (piece c s .text)) (length out))
-        (λ no.
-        let stop : stops c s (length out) ≡ true = or-right (ended c s) _ (not-ended m) ∙ ap not no in
-        n m (omega (arith, written-length, ap (λ (x : Piece). length (x .text)) (part-stopped (suc (length s)) c s (length out) stop)))))
-        (λ m. rw (begun, le-leb (length s) (c .at) m))
+      written-length : p .to ≡ length (part c s (length out) .text)
+      written-length = omega (arith, a .to, ap (λ (x : Piece). length (x .text)) whole)
 
-    pub later-part : (c .at < length s → p .to ≡ 0 → ⊥) → {r : Part} → r ≡ record { wrote = Count (p .to); cursor = cursorOf p } → Gives c s out r left
-    later-part n e =
-        gives-part c s out (is-short l) (is-kept safe) (is-fitting n)
-        (counted e written-length (a .cursor ∙ ap (λ (x : Piece). x .next) whole))
-        written-bytes
+      written-bytes : left ≡ sets out 0 (part c s (length out) .text)
+      written-bytes = a .buffer ∙ ap (λ (x : Piece). sets out 0 (x .text)) whole
+
+      -- not even the next line fits
+      pub later-27 : p .to ≡ 0 → {r : Part} → r ≡ refusedPart 27 c → Gives c s out r left
+      later-27 z {r} e =
+          let stop : stops c s (length out) ≡ true = empty-stops (suc (length s)) c s (length out) (omega arith) (omega (arith, written-length, z)) in
+          let none : part c s (length out) ≡ none c = part-stopped (suc (length s)) c s (length out) stop in
+          let no : leb (length (piece c s .text)) (length out) ≡ false = not-true _ (sym (or-right (ended c s) _ not-ended) ∙ stop) in
+          subst (λ (x : List ℕ). Gives c s out r x) (sym (written-bytes ∙ ap (λ (x : Piece). sets out 0 (x .text)) none)) (gives-27 c s out (is-short l) (is-kept safe) (or-right (ended c s) _ not-ended ∙ no) e)
+
+      -- the next line fits
+      is-fitting : (p .to ≡ 0 → ⊥) → fits c s out ≡ true
+      is-fitting n =
+          or-right (ended c s) _ not-ended
+          ∙ true-or-false (leb (length (piece c s .text)) (length out))
+          (λ no.
+          let stop : stops c s (length out) ≡ true = or-right (ended c s) _ not-ended ∙ ap not no in
+          n (omega (arith, written-length, ap (λ (x : Piece). length (x .text)) (part-stopped (suc (length s)) c s (length out) stop))))
+
+      pub later-part : (p .to ≡ 0 → ⊥) → {r : Part} → r ≡ record { wrote = Count (p .to); cursor = cursorOf p } → Gives c s out r left
+      later-part n e =
+          gives-part c s out (is-short l) (is-kept safe) (is-fitting n)
+          (counted e written-length (a .cursor ∙ ap (λ (x : Piece). x .next) whole))
+          written-bytes
 
 -- ---- a cursor at the beginning
 module _ (c : Cursor) (s out : List ℕ) (begun : c .begun ≡ false) where

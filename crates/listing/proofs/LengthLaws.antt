@@ -2,7 +2,7 @@
 use mathlib.Core.Path.{_≡_, refl, sym, ap, subst, _∙_}
 use mathlib.Core.Bool.{Bool, true, false, cond}
 use mathlib.Core.List.{List, [], _∷_}
-use Prim.Native.Nat.{ℕ, zero, suc, _*_, _-_, _≤_, _<_}
+use Prim.Native.Nat.{ℕ, zero, suc, _-_, _≤_, _<_}
 use native.Mathlib.Omega.{arith}
 use lib.ListN.{length, drop, length-append}
 use lib.Dec.{leb}
@@ -24,10 +24,11 @@ use Rattle.script.specs.declared.Reading.the-variants.{Opens, Asks, Refused}
 use Rattle.decimal.specs.Spelling.{digitCount}
 use Rattle.decimal.proofs.CountLaws.{count-bound}
 use Rattle.texts.specs.Texts.{heading, refusedWord, stateWord, lineText, boardText, refusedText}
-use Rattle.listing.specs.Scripts.{lineOutcome}
-use Rattle.listing.specs.Parts.{Piece, ended, behind, openedPiece, firstPiece, nextNumber, laterPiece, piece, stops, before, partWithin, longestPiece, longestLine}
-use Rattle.listing.specs.Batches.{linesAt, batchText}
-use Rattle.listing.specs.Turns.{startOutcome, startPlace}
+use Rattle.listing.specs.Scripts.{lineOutcome, laterOutcome, startOutcome}
+use Rattle.listing.specs.Bounds.{longestPiece, longestLine}
+use Rattle.listing.specs.Parts.{Piece, ended, behind, openedPiece, firstPiece, nextNumber, laterPiece, piece, stops, before, partWithin}
+use Rattle.listing.specs.Batches.{linesAt}
+use Rattle.listing.specs.Turns.{startPlace}
 use Rattle.texts.proofs.TextLaws.{line-length}
 use Rattle.listing.proofs.StartLaws.{reading-number, Started, opened, refused, starts, first-opened, refused-piece, first-text, startCursor, first-next}
 use Rattle.listing.proofs.PieceLaws.{or-left}
@@ -61,19 +62,13 @@ outcome-sound b (Opens m d n) h = h
 outcome-sound b (Asks r) h = step-keeps-sound b r h
 outcome-sound b (Refused k) h = h
 
-pub later-most : (n : ℕ) (b : Board) (l : List ℕ) → n ≤ 4294967295 → Sound b → length (boardText n (lineOutcome b (reading false l) .answer) (lineOutcome b (reading false l) .board)) ≤ longestLine
+pub later-most : (n : ℕ) (b : Board) (l : List ℕ) → n ≤ 4294967295 → Sound b → length (boardText n (laterOutcome b l .answer) (laterOutcome b l .board)) ≤ longestLine
 later-most n b l p h =
-    line-most n _ _ (verdict (lineOutcome b (reading false l) .board)) p (outcome-short b (reading false l) (λ k e. reading-number false l k e .1)) (outcome-sound b (reading false l) h .s5-s6-debt .1 .0)
+    line-most n _ _ (verdict (laterOutcome b l .board)) p (outcome-short b (reading false l) (λ k e. reading-number false l k e .1)) (outcome-sound b (reading false l) h .s5-s6-debt .1 .0)
 
 -- ---- a batch of lines
 pub number-fits : (n : ℕ) → nextNumber n ≤ 4294967295
 number-fits n = omega arith
-
-pub batch-most : (n : ℕ) (b : Board) (ls : List (List ℕ)) → n ≤ 4294967295 → Sound b → length (batchText n b ls) ≤ longestLine * length ls
-unfolding batchText
-batch-most n b [] p h = omega arith
-batch-most n b (l ∷ ls) p h =
-    omega (arith, length-append (boardText n (lineOutcome b (reading false l) .answer) (lineOutcome b (reading false l) .board)) (batchText (nextNumber n) (lineOutcome b (reading false l) .board) ls), later-most n b l p h, batch-most (nextNumber n) (lineOutcome b (reading false l) .board) ls (number-fits n) (outcome-sound b (reading false l) h))
 
 pub lines-most : (k at : ℕ) (s : List ℕ) → length (linesAt k at s) ≤ k
 unfolding linesAt
@@ -103,7 +98,7 @@ unfolding Kept
 first-kept s o x = subst (λ (c : Cursor). ended c s ≡ false → c .begun ≡ true → Under c s) (sym (first-next s o x)) (by-start x)
   where
     by-start : Started s o → ended (startCursor s o) s ≡ false → true ≡ true → Under (startCursor s o) s
-    by-start (opened l e h d) p q = record { short = l; line = omega arith; is-sound = h }
+    by-start (opened l e h d f) p q = record { short = l; line = omega arith; is-sound = h }
     by-start (refused k n e) p q =
         let z : startPlace s (o .answer) ≡ length s = ap (λ (t : Bool). cond t (behind 0 s) (length s)) (ne-eqb (o .answer) 0 (λ y. omega (arith, n, y, ap (λ (x : Outcome). x .answer) e))) in
         absurd (true-not-false (sym (le-leb (length s) (startPlace s (o .answer)) (omega arith)) ∙ p))
@@ -132,8 +127,8 @@ part-kept (suc k) c s room h = by-stop (stops c s room) refl (part-kept k (piece
 
 -- ---- pieces
 first-most : (s : List ℕ) (o : Outcome) → Started s o → length (openedPiece s o .text) ≤ longestPiece
-first-most s o (opened l e h d) =
-    omega (arith, ap length (first-text s o (opened l e h d)), length-append heading (boardText 0 (o .answer) (o .board)), line-length 0 (o .answer) (o .board .debt) (stateWord (verdict (o .board))), ap digitCount e, ap digitCount d, word-most (verdict (o .board)), one-digit)
+first-most s o (opened l e h d f) =
+    omega (arith, ap length (first-text s o (opened l e h d f)), length-append heading (boardText 0 (o .answer) (o .board)), line-length 0 (o .answer) (o .board .debt) (stateWord (verdict (o .board))), ap digitCount e, ap digitCount d, word-most (verdict (o .board)), one-digit)
 first-most s o (refused k n e) =
     omega (arith, ap (λ (p : Piece). length (p .text)) (refused-piece s o k n e), length-append heading (refusedText k), line-length 0 k 0 refusedWord, one-digit, count-bound k 2 (omega arith) (omega arith) (omega (arith, n)))
 

@@ -8,7 +8,6 @@ pub mod GatherLaws
 pub mod RowLaws
 pub mod TurnLaws
 pub mod LoopLaws
-pub mod ParentLaws
 pub mod CaseLaws
 pub mod FrontLaws
 pub mod CallLaws

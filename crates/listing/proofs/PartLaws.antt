@@ -11,8 +11,8 @@ use borrow.Author.Tests.{le-leb, leb-true}
 use Rattle.rules.specs.Finished.{verdict}
 use Rattle.rules.specs.declared.Outcome.{Outcome}
 use Rattle.texts.specs.Texts.{heading, stateWord, boardText}
+use Rattle.listing.specs.Scripts.{startOutcome}
 use Rattle.listing.specs.Parts.{Piece, ended, firstPiece, laterPiece, piece, stops, before, partWithin, part}
-use Rattle.listing.specs.Turns.{startOutcome}
 use Rattle.texts.proofs.TextLaws.{line-length}
 use Rattle.listing.proofs.StartLaws.{start-text}
 use Rattle.listing.proofs.PieceLaws.{outcomeAt, turns, turns-most, piece-fewer, no-turns, or-left}

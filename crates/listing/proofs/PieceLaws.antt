@@ -7,16 +7,15 @@ use native.Mathlib.Nat.{not-suc-le-zero}
 use native.Mathlib.Omega.{arith}
 use lib.ListN.{length, drop, length-drop}
 use lib.Dec.{leb, eqb}
-use borrow.Author.Tests.{leb-true, leb-false, le-leb, lt-leb}
-use Rattle.rules.specs.Facts.{check, atMost, judge}
+use borrow.Author.Tests.{eqb-true, leb-false, le-leb, lt-leb}
 use Rattle.rules.specs.declared.Board.{Board}
 use Rattle.rules.specs.declared.Outcome.{Outcome}
 use Rattle.fields.specs.Fields.{upTo, past}
-use Rattle.script.specs.Lines.{reading, parentsOf}
 use Rattle.texts.specs.Texts.{heading, boardText, refusedText}
-use Rattle.listing.specs.Scripts.{linesWithin, lineOutcome, laterText, firstOutcome, openedText, linesText, listing}
+use Rattle.listing.specs.Scripts.{linesWithin, laterOutcome, startOutcome, textOf, laterLines, openedText, listing}
 use Rattle.listing.specs.Parts.{Piece, beginning, ended, behind, refusedPiece, openedPiece, firstPiece, nextNumber, laterPiece, piece, restWithin, rest, stops, before, partWithin}
-use Rattle.listing.proofs.LineLaws.{past-shorter, behind-drop, lines-enough}
+use Rattle.listing.proofs.LineLaws.{past-shorter, behind-drop, lines-behind}
+use Rattle.listing.proofs.StartLaws.{start-short, start-next}
 use Rattle.listing.specs.declared.Cursor.{Cursor}
 
 pub or-left : (s t : Bool) → s || t ≡ false → s ≡ false
@@ -33,7 +32,7 @@ laterCursor at n b = record { begun = true; at = at; line = n; board = b }
 
 -- the outcome of the line at a place
 abbrev pub outcomeAt : ℕ → Board → List ℕ → Outcome
-outcomeAt at b s = lineOutcome b (reading false (upTo 10 (drop at s)))
+outcomeAt at b s = laterOutcome b (upTo 10 (drop at s))
 
 -- behind the beginning the next piece is a later one
 pub piece-later : (c : Cursor) (s : List ℕ) → c .begun ≡ true → piece c s ≡ laterPiece c s
@@ -44,10 +43,13 @@ pub later-begun : (c : Cursor) (s : List ℕ) → c .begun ≡ true → piece c 
 unfolding laterPiece
 later-begun c s b = ap (λ (p : Piece). p .next .begun) (piece-later c s b)
 
+abbrev laterText : ℕ → Board → List (List ℕ) → List ℕ
+laterText n b ls = textOf (laterLines n b ls)
+
 -- what is still to come behind the first line is the text of the lines from the cursor's place on
 rest-later : (k at n : ℕ) (b : Board) (s : List ℕ) → at ≤ length s → n + (length s - at) < 4294967295
     → restWithin k (laterCursor at n b) s ≡ laterText n b (linesWithin k (drop at s))
-unfolding restWithin laterText linesWithin piece laterPiece
+unfolding restWithin textOf laterLines linesWithin piece laterPiece
 rest-later zero at n b s l m = refl
 rest-later (suc k) at n b s l m = by-rest (drop at s) refl (rest-later k (behind at s) (suc n) (outcomeAt at b s .board) s (omega arith))
   where
@@ -62,7 +64,7 @@ rest-later (suc k) at n b s l m = by-rest (drop at s) refl (rest-later k (behind
         ap (λ (t : Bool). cond t [] (boardText n (outcomeAt at b s .answer) (outcomeAt at b s .board) ++ restWithin k (laterPiece (laterCursor at n b) s .next) s)) (lt-leb (length s) at (omega (arith, length-drop at s)))
         ∙ ap (λ (x : ℕ). boardText n (outcomeAt at b s .answer) (outcomeAt at b s .board) ++ restWithin k (laterCursor (behind at s) x (outcomeAt at b s .board)) s) (number-next n (omega (arith, length-drop at s)))
         ∙ ap (λ (x : List ℕ). boardText n (outcomeAt at b s .answer) (outcomeAt at b s .board) ++ x) (ih (omega (arith, length-drop at s)) ∙ ap (λ (t : List ℕ). laterText (suc n) (outcomeAt at b s .board) (linesWithin k t)) (behind-drop at s l))
-        ∙ ap (λ (t : List ℕ). boardText n (lineOutcome b (reading false (upTo 10 t)) .answer) (lineOutcome b (reading false (upTo 10 t)) .board) ++ laterText (suc n) (lineOutcome b (reading false (upTo 10 t)) .board) (linesWithin k (past 10 t))) e
+        ∙ ap (λ (t : List ℕ). boardText n (laterOutcome b (upTo 10 t) .answer) (laterOutcome b (upTo 10 t) .board) ++ laterText (suc n) (laterOutcome b (upTo 10 t) .board) (linesWithin k (past 10 t))) e
 
 -- ---- the beginning
 -- a refused first line is the whole of what comes
@@ -71,42 +73,23 @@ unfolding restWithin
 rest-refused k r s = rw (le-leb (length s) (length s) (omega arith)) (append-nil (heading ++ refusedText r))
 
 module _ (k : ℕ) (s : List ℕ) (enough : length s ≤ k) where
-  rest-opened : (o : Outcome) → length s ≤ 65535 → openedPiece s o .text ++ restWithin (suc k) (openedPiece s o .next) s ≡ heading ++ openedText o (linesWithin (suc k) (past 10 s))
-  rest-opened o l = by-answer (eqb (o .answer) 0)
+  rest-opened : (o : Outcome) → (o .answer ≡ 0 → length s ≤ 65535) → openedPiece s o .text ++ restWithin (suc k) (openedPiece s o .next) s ≡ heading ++ openedText o (linesWithin (suc k) (past 10 s))
+  unfolding textOf
+  rest-opened o l = by-answer (eqb (o .answer) 0) refl
     where
-      by-answer : (t : Bool)
+      by-answer : (t : Bool) → eqb (o .answer) 0 ≡ t
           → cond t (record { text = heading ++ boardText 0 0 (o .board); next = record { begun = true; at = behind 0 s; line = 1; board = o .board } }) (refusedPiece s (o .answer)) .text
           ++ restWithin (suc k) (cond t (record { text = heading ++ boardText 0 0 (o .board); next = record { begun = true; at = behind 0 s; line = 1; board = o .board } }) (refusedPiece s (o .answer)) .next) s
           ≡ heading ++ cond t (boardText 0 0 (o .board) ++ laterText 1 (o .board) (linesWithin (suc k) (past 10 s))) (refusedText (o .answer))
-      by-answer true =
+      by-answer true e =
           append-assoc heading (boardText 0 0 (o .board)) _
           ∙ ap (λ (x : List ℕ). heading ++ (boardText 0 0 (o .board) ++ x))
-          (rest-later (suc k) (behind 0 s) 1 (o .board) s (omega arith) (omega (arith, l)) ∙ ap (λ (t : List ℕ). laterText 1 (o .board) (linesWithin (suc k) t)) (behind-drop 0 s (omega arith)))
-      by-answer false = rest-refused k (o .answer) s
+          (rest-later (suc k) (behind 0 s) 1 (o .board) s (omega arith) (omega (arith, l (eqb-true (o .answer) 0 e))) ∙ ap (λ (t : List ℕ). laterText 1 (o .board) (linesWithin (suc k) t)) (behind-drop 0 s (omega arith)))
+      by-answer false e = rest-refused k (o .answer) s
 
   rest-first : restWithin (suc (suc k)) beginning s ≡ listing s
-  unfolding restWithin piece firstPiece listing linesText linesWithin
-  rest-first = by-length (leb (length s) 65535) refl
-    where
-      by-lines : length s ≤ 65535 → (t : List ℕ) → s ≡ t
-          → judge (refusedPiece s) (check (atMost 1 (length t)) 25 ∷ []) (openedPiece s (firstOutcome (parentsOf (upTo 10 t)) (reading true (upTo 10 t)))) .text
-          ++ restWithin (suc k) (judge (refusedPiece s) (check (atMost 1 (length t)) 25 ∷ []) (openedPiece s (firstOutcome (parentsOf (upTo 10 t)) (reading true (upTo 10 t)))) .next) s
-          ≡ heading ++ linesText (linesWithin (length t) t)
-      by-lines l [] e = rest-refused k 25 s
-      by-lines l (c ∷ cs) e =
-          let o : Outcome = firstOutcome (parentsOf (upTo 10 (c ∷ cs))) (reading true (upTo 10 (c ∷ cs))) in
-          let short = past-shorter 10 c cs in
-          let len : length s ≡ suc (length cs) = ap length e in
-          ap (λ (t : Bool). cond t (openedPiece s o) (refusedPiece s 25) .text ++ restWithin (suc k) (cond t (openedPiece s o) (refusedPiece s 25) .next) s) (le-leb 1 (suc (length cs)) (omega arith))
-          ∙ rest-opened o l
-          ∙ ap (λ (ls : List (List ℕ)). heading ++ openedText o ls) (ap (λ (t : List ℕ). linesWithin (suc k) (past 10 t)) e ∙ lines-enough (suc k) (length cs) (past 10 (c ∷ cs)) (omega arith) short)
-
-      by-length : (t : Bool) → leb (length s) 65535 ≡ t
-          → cond t (judge (refusedPiece s) (check (atMost 1 (length s)) 25 ∷ []) (openedPiece s (firstOutcome (parentsOf (upTo 10 s)) (reading true (upTo 10 s))))) (refusedPiece s 26) .text
-          ++ restWithin (suc k) (cond t (judge (refusedPiece s) (check (atMost 1 (length s)) 25 ∷ []) (openedPiece s (firstOutcome (parentsOf (upTo 10 s)) (reading true (upTo 10 s))))) (refusedPiece s 26) .next) s
-          ≡ heading ++ cond t (linesText (linesWithin (length s) s)) (refusedText 26)
-      by-length true e = by-lines (leb-true (length s) 65535 e) s refl
-      by-length false e = rest-refused k 26 s
+  unfolding restWithin piece firstPiece listing
+  rest-first = rest-opened (startOutcome s) (start-short s) ∙ ap (λ (ls : List (List ℕ)). heading ++ openedText (startOutcome s) ls) (lines-behind k s enough)
 
 -- ---- more turns give no more text
 -- the turns that a cursor can need
@@ -115,18 +98,7 @@ turns c s = cond (c .begun) (length s - c .at) (suc (length s))
 
 -- every piece leaves a cursor behind the beginning
 first-begun : (s : List ℕ) → firstPiece s .next .begun ≡ true
-unfolding firstPiece
-first-begun s = by-tests (leb (length s) 65535) (leb 1 (length s)) (eqb (firstOutcome (parentsOf (upTo 10 s)) (reading true (upTo 10 s)) .answer) 0)
-  where
-    o : Outcome
-    o = firstOutcome (parentsOf (upTo 10 s)) (reading true (upTo 10 s))
-
-    by-tests : (t u v : Bool)
-        → cond t (cond u (cond v (record { text = heading ++ boardText 0 0 (o .board); next = record { begun = true; at = behind 0 s; line = 1; board = o .board } }) (refusedPiece s (o .answer))) (refusedPiece s 25)) (refusedPiece s 26) .next .begun ≡ true
-    by-tests true true true = refl
-    by-tests true true false = refl
-    by-tests true false v = refl
-    by-tests false u v = refl
+first-begun s = ap (λ (c : Cursor). c .begun) (start-next s)
 
 -- a line takes at least a byte of the script
 pub past-fewer : (at : ℕ) (s : List ℕ) → at < length s → suc (length s - behind at s) ≤ length s - at

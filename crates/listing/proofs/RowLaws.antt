@@ -17,9 +17,15 @@ use Rattle.placing.proofs.Stores.{sets-append}
 use Rattle.placing.proofs.WriteLaws.{wrote-fits, wrote-short, written-fits, written-short, written-length, fits-or-short}
 use Rattle.texts.specs.Texts.{lineText}
 use Rattle.listing.specs.Parts.{nextNumber}
-use Rattle.listing.specs.Batches.{rowsText}
 use Rattle.listing.proofs.LengthLaws.{number-fits}
 use Rattle.listing.specs.Turns.{bytesOf, rowText, Placed, rowsInto}
+
+-- the lines of a batch from what it gives: refusals of bad lines, answers of steps and debts after them
+unfoldable pub rowsText : ℕ → List ℕ → List ℕ → List ℕ → List ℕ
+rowsText n [] js ds = []
+rowsText n (k ∷ ks) [] ds = []
+rowsText n (k ∷ ks) (j ∷ js) [] = []
+rowsText n (k ∷ ks) (j ∷ js) (d ∷ ds) = rowText n k j d ++ rowsText (nextNumber n) ks js ds
 
 -- ---- a turn
 module _ (n i count to : ℕ) (ks js ds out : List ℕ) (more : i < count) (keys : count ≤ length ks) (answers : count ≤ length js) (debts : count ≤ length ds) where

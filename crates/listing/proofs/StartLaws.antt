@@ -1,17 +1,16 @@
 -- The first piece by the outcome of the script's first line.
 use mathlib.Core.Path.{_≡_, refl, sym, ap, subst, _∙_}
 use mathlib.Core.Bool.{Bool, true, false, cond}
-use mathlib.Core.List.{List, [], _∷_, _++_}
+use mathlib.Core.List.{List, _++_}
 use Prim.Native.Nat.{ℕ, zero, suc, _≤_, _<_}
 use native.Mathlib.Omega.{arith}
 use lib.ListN.{length}
 use borrow.Author.Tests.{eq-eqb, ne-eqb, le-leb, lt-leb}
-use Rattle.rules.specs.Facts.{Check, check, atMost}
 use Rattle.rules.specs.Sound.{Sound, sound}
 use Rattle.rules.specs.Opening.{openingChecks, fresh, blankBoard, opening}
 use Rattle.rules.specs.Finished.{verdict}
 use Rattle.rules.proofs.FactLaws.{judge-passed}
-use Rattle.rules.proofs.JudgeLaws.{Number, Judged, passed, failed, judged, judge-map}
+use Rattle.rules.proofs.JudgeLaws.{Number, Judged, passed, failed, judged}
 use Rattle.rules.proofs.SoundLaws.{sound-claims}
 use Rattle.rules.proofs.FreshSound.{opening-fresh}
 use Rattle.rules.proofs.Theorem.{opening-sound}
@@ -23,9 +22,9 @@ use Rattle.script.specs.Lines.{arguments, values, lineChecks, readingBy, readin
 use Rattle.script.specs.declared.Reading.{Reading}
 use Rattle.script.specs.declared.Reading.the-variants.{Opens, Asks, Refused}
 use Rattle.texts.specs.Texts.{heading, lineText, boardText, refusedText}
-use Rattle.listing.specs.Scripts.{firstOutcome}
+use Rattle.listing.specs.Scripts.{refusedBy, firstOutcome, startChecks, startOutcome}
 use Rattle.listing.specs.Parts.{Piece, behind, refusedPiece, openedPiece, firstPiece}
-use Rattle.listing.specs.Turns.{startOutcome, startPlace}
+use Rattle.listing.specs.Turns.{startPlace}
 use Rattle.listing.specs.declared.Cursor.{Cursor}
 
 -- ---- a line that is refused, is so by a number from 1 to 99
@@ -42,15 +41,18 @@ reading-number first l k e = by-checks (judged Refused (lineChecks first l) (rea
     by-checks (failed j p q) = let same : j ≡ k = cc in subst Number same p
 
 -- ---- what is known of the outcome of a first line
-abbrev refusedBy : ℕ → Outcome
-refusedBy k = record { answer = k; board = blankBoard }
-
 abbrev openedAs : List ℕ → Outcome → Piece
 openedAs s o = record { text = heading ++ boardText 0 0 (o .board); next = record { begun = true; at = behind 0 s; line = 1; board = o .board } }
 
+pub record FromOpening (o : Outcome) : Type 0 where
+  pub m : ℕ
+  pub d : ℕ
+  pub parents : List ℕ
+  pub is : o ≡ opening m d parents
+
 -- the board is a fresh one, or blank with a number that refuses
 pub data Started (s : List ℕ) (o : Outcome) : Type 0 where
-  opened : length s ≤ 65535 → o .answer ≡ 0 → Sound (o .board) → o .board .debt ≡ 0 → Started s o
+  opened : length s ≤ 65535 → o .answer ≡ 0 → Sound (o .board) → o .board .debt ≡ 0 → FromOpening o → Started s o
   refused : (k : ℕ) → Number k → o ≡ refusedBy k → Started s o
 
 -- of an opening, short or not
@@ -61,18 +63,13 @@ opening-starts s m d ps l = by-checks (judged refusedBy (openingChecks m d ps) (
     by-checks : Judged refusedBy (openingChecks m d ps) (record { answer = 0; board = fresh m d ps }) → Started s (opening m d ps)
     by-checks (passed c) =
         let e : opening m d ps .answer ≡ 0 = ap (λ (o : Outcome). o .answer) (opening-fresh m d ps c) in
-        opened l e (opening-sound m d ps e .0) (opening-sound m d ps e .1)
+        opened l e (opening-sound m d ps e .0) (opening-sound m d ps e .1) (record { m = m; d = d; parents = ps; is = refl })
     by-checks (failed k p q) = refused k p q
 
 first-starts : (s ps : List ℕ) (x : Reading) → length s ≤ 65535 → ((k : ℕ) → x ≡ Refused k → Number k) → Started s (firstOutcome ps x)
-unfolding opening
 first-starts s ps (Opens m d n) l f = opening-starts s m d ps l
-first-starts s ps (Asks r) l f = opening-starts s 0 0 [] l
+first-starts s ps (Asks r) l f = refused 25 (omega arith) refl
 first-starts s ps (Refused k) l f = refused k (f k refl) refl
-
--- the checks that stand before a first line
-abbrev pub startChecks : List ℕ → List Check
-startChecks s = check (atMost (length s) 65535) 26 ∷ check (atMost 1 (length s)) 25 ∷ []
 
 pub starts : (s : List ℕ) → Started s (startOutcome s)
 unfolding startOutcome
@@ -86,14 +83,22 @@ starts s = by-checks (judged refusedBy (startChecks s) first (omega arith))
         subst (Started s) (sym (judge-passed refusedBy (startChecks s) first c)) (first-starts s (parentsOf (upTo 10 s)) (reading true (upTo 10 s)) (c .0) (reading-number true (upTo 10 s)))
     by-checks (failed k p q) = refused k p q
 
--- the three cases of the outcome; a refused opening has the blank board
+-- a script whose board line is accepted is not too long
+pub start-short : (s : List ℕ) → startOutcome s .answer ≡ 0 → length s ≤ 65535
+start-short s e = by-start (starts s)
+  where
+    by-start : Started s (startOutcome s) → length s ≤ 65535
+    by-start (opened l q h d f) = l
+    by-start (refused k p q) = absurd (omega (arith, p, e, ap (λ (o : Outcome). o .answer) q))
+
+-- the three cases of the outcome
 module _ (s : List ℕ) where
-  pub start-long : 65535 < length s → startOutcome s ≡ record { answer = 26; board = opening 0 0 [] .board }
-  unfolding startOutcome opening
+  pub start-long : 65535 < length s → startOutcome s ≡ refusedBy 26
+  unfolding startOutcome
   start-long l = rw (lt-leb (length s) 65535 l)
 
-  pub start-empty : length s ≤ 65535 → length s < 1 → startOutcome s ≡ record { answer = 25; board = opening 0 0 [] .board }
-  unfolding startOutcome opening
+  pub start-empty : length s ≤ 65535 → length s < 1 → startOutcome s ≡ refusedBy 25
+  unfolding startOutcome
   start-empty l m = rw (le-leb (length s) 65535 l, lt-leb 1 (length s) m)
 
   pub start-first : length s ≤ 65535 → 1 ≤ length s → startOutcome s ≡ firstOutcome (parentsOf (upTo 10 s)) (reading true (upTo 10 s))
@@ -102,8 +107,8 @@ module _ (s : List ℕ) where
 
 -- ---- the first piece
 pub first-opened : (s : List ℕ) → firstPiece s ≡ openedPiece s (startOutcome s)
-unfolding firstPiece startOutcome
-first-opened s = sym (judge-map (openedPiece s) refusedBy (startChecks s) (firstOutcome (parentsOf (upTo 10 s)) (reading true (upTo 10 s))))
+unfolding firstPiece
+first-opened s = refl
 
 -- a blank board is not sound, having no unit
 blank-unsound : sound blankBoard ≡ false
@@ -128,7 +133,7 @@ refused-piece s o k p e = ap (openedPiece s) e ∙ ap (λ (t : Bool). cond t (op
 
 -- the text of the first piece, and the cursor behind it, whether its line was refused or not
 pub first-text : (s : List ℕ) (o : Outcome) → Started s o → openedPiece s o .text ≡ heading ++ boardText 0 (o .answer) (o .board)
-first-text s o (opened l e h d) = ap (λ (p : Piece). p .text) (opened-piece s o e) ∙ ap (λ (k : ℕ). heading ++ boardText 0 k (o .board)) (sym e)
+first-text s o (opened l e h d f) = ap (λ (p : Piece). p .text) (opened-piece s o e) ∙ ap (λ (k : ℕ). heading ++ boardText 0 k (o .board)) (sym e)
 first-text s o (refused k p e) =
     ap (λ (x : Piece). x .text) (refused-piece s o k p e) ∙ ap (λ (x : List ℕ). heading ++ x) (sym (blank-text k)) ∙ ap (λ (x : Outcome). heading ++ boardText 0 (x .answer) (x .board)) (sym e)
 
@@ -136,7 +141,7 @@ abbrev pub startCursor : List ℕ → Outcome → Cursor
 startCursor s o = record { begun = true; at = startPlace s (o .answer); line = 1; board = o .board }
 
 pub first-next : (s : List ℕ) (o : Outcome) → Started s o → openedPiece s o .next ≡ startCursor s o
-first-next s o (opened l e h d) =
+first-next s o (opened l e h d f) =
     ap (λ (p : Piece). p .next) (opened-piece s o e) ∙ ap (λ (t : Bool). record { begun = true; at = cond t (behind 0 s) (length s); line = 1; board = o .board }) (sym (eq-eqb (o .answer) 0 e))
 first-next s o (refused k p e) =
     ap (λ (x : Piece). x .next) (refused-piece s o k p e)
@@ -152,7 +157,7 @@ start-next s = ap (λ (p : Piece). p .next) (first-opened s) ∙ first-next s (s
 
 -- where a line is left behind the first, the board is sound
 pub start-sound : (s : List ℕ) (o : Outcome) → Started s o → startPlace s (o .answer) < length s → Sound (o .board)
-start-sound s o (opened l e h d) m = h
+start-sound s o (opened l e h d f) m = h
 start-sound s o (refused k p e) m =
     let z : startPlace s (o .answer) ≡ length s = ap (λ (x : Outcome). startPlace s (x .answer)) e ∙ ap (λ (t : Bool). cond t (behind 0 s) (length s)) (ne-eqb k 0 (λ y. omega (arith, p, y))) in
     absurd (omega (arith, z, m))

@@ -9,25 +9,26 @@ use lib.Dec.{leb}
 use lib.Seq.{sets}
 use borrow.Author.Tests.{lt-leb}
 use Rattle.rules.specs.Sound.{Sound}
-use Rattle.rules.specs.Steps.{step}
 use Rattle.rules.specs.Lists.{after, answers}
 use Rattle.rules.specs.Runs.{debts, zeros, batchMost, padded, batch}
 use Rattle.rules.proofs.SoundLaws.{sound-tested, below-or-not}
+use Rattle.steps.proofs.BatchLaws.{answers-length, debts-length}
 use Rattle.rules.specs.declared.Board.{Board}
 use Rattle.rules.specs.declared.StepRecord.{StepRecord}
 use Rattle.rules.specs.declared.Batch.{Batch}
 use Rattle.rules.specs.declared.Ran.the-variants.{Zeros, Refused}
 use Rattle.fields.specs.Fields.{upTo}
 use Rattle.texts.specs.Texts.{boardText}
-use Rattle.listing.specs.Parts.{Piece, behind, nextNumber, laterPiece, piece, before, partWithin, longestLine}
-use Rattle.listing.specs.Batches.{linesAt, placeAfter, recordsOf, refusalsOf, numberAfter, batchText, rowsText}
+use Rattle.listing.specs.Bounds.{longestLine}
+use Rattle.listing.specs.Parts.{Piece, behind, nextNumber, laterPiece, piece, before, partWithin}
+use Rattle.listing.specs.Batches.{linesAt, placeAfter, recordsOf, refusalsOf}
 use Rattle.listing.specs.Turns.{Gathers, Placed, rowsInto, cursorOf, batchSize, Advances}
 use Rattle.listing.proofs.PieceLaws.{laterCursor, outcomeAt}
 use Rattle.listing.proofs.PartLaws.{none, part-empty}
-use Rattle.listing.proofs.LengthLaws.{batch-most, lines-most}
-use Rattle.listing.proofs.BatchLaws.{batched, part-batched, batch-board, batch-rows}
+use Rattle.listing.proofs.LengthLaws.{lines-most}
+use Rattle.listing.proofs.BatchLaws.{numberAfter, batchText, batch-most, batched, part-batched, batch-board, batch-rows}
 use Rattle.listing.proofs.GatherLaws.{records-length}
-use Rattle.listing.proofs.RowLaws.{numbered, rows-fit, rows-short, rows-padded}
+use Rattle.listing.proofs.RowLaws.{rowsText, numbered, rows-fit, rows-short, rows-padded}
 use Rattle.listing.specs.declared.gathering.Gathered.{Gathered}
 use Rattle.listing.specs.declared.rows.Rows.{Rows}
 use Rattle.listing.specs.declared.turns.Progress.{Progress}
@@ -65,16 +66,6 @@ batch-sound : (b : Board) (rs : List StepRecord) → Sound b → batch b rs ≡ 
 unfolding batch
 batch-sound b rs h =
     ap (λ (t : Bool). cond t (batchDone b rs) (record { ran = Refused 30; board = b; answers = padded []; debts = padded [] })) (sound-tested b h)
-
-answers-length : (b : Board) (rs : List StepRecord) → length (answers b rs) ≡ length rs
-unfolding answers
-answers-length b [] = refl
-answers-length b (r ∷ rs) = ap suc (answers-length (step b r .board) rs)
-
-debts-length : (b : Board) (rs : List StepRecord) → length (debts b rs) ≡ length rs
-unfolding debts
-debts-length b [] = refl
-debts-length b (r ∷ rs) = ap suc (debts-length (step b r .board) rs)
 
 refusals-length : (ls : List (List ℕ)) → length (refusalsOf ls) ≡ length ls
 unfolding refusalsOf

@@ -11,10 +11,12 @@ use borrow.Author.Tests.{le-leb, leb-false, not-true}
 use Rattle.rules.specs.Facts.{Claims}
 use Rattle.rules.proofs.FactLaws.{true-not-false, asked, judge-passed}
 use Rattle.rules.proofs.SoundLaws.{below-or-not}
+use Rattle.placing.specs.declared.Wrote.{Wrote}
 use Rattle.placing.specs.declared.Wrote.the-variants.{Count, Refused}
 use Rattle.placing.proofs.WriteLaws.{Writes, places}
 use Rattle.listing.specs.Scripts.{listing}
-use Rattle.listing.specs.Parts.{Piece, beginning, ended, piece, rest, stops, part, partChecks, partOf, partBuffer, longestPiece, longestLine, ListingBound}
+use Rattle.listing.specs.Bounds.{longestPiece, longestLine, ListingBound}
+use Rattle.listing.specs.Parts.{Piece, beginning, ended, piece, rest, stops, part, partChecks, callNext, partOf, partBuffer}
 use Rattle.listing.specs.Turns.{bytesOf}
 use Rattle.listing.proofs.PieceLaws.{turns, turns-most, rest-piece, rest-beginning, rest-end, part-rest}
 use Rattle.listing.proofs.PartLaws.{goes-on, part-fewer-turns, part-ends, empty-stops}
@@ -30,11 +32,13 @@ given c s out = record { wrote = Count (length (part c s (length out) .text)); c
 
 part-given : (c : Cursor) (s out : List ℕ) → Claims (asked (partChecks c s (length out))) → partOf c s out ≡ given c s out
 unfolding partOf
-part-given c s out ok = judge-passed (λ k. record { wrote = Refused k; cursor = c }) (partChecks c s (length out)) (given c s out) ok
+part-given c s out ok =
+    ap (λ (w : Wrote). record { wrote = w; cursor = callNext c s (length out) }) (judge-passed Refused (partChecks c s (length out)) (Count (length (part c s (length out) .text))) ok)
+    ∙ ap (λ (n : Cursor). record { wrote = Count (length (part c s (length out) .text)); cursor = n }) (judge-passed (λ k. c) (partChecks c s (length out)) (part c s (length out) .next) ok)
 
 buffer-given : (c : Cursor) (s out : List ℕ) → Claims (asked (partChecks c s (length out))) → partBuffer c s out ≡ sets out 0 (part c s (length out) .text)
 unfolding partBuffer
-buffer-given c s out ok = judge-passed (λ k. out) (partChecks c s (length out)) (sets out 0 (part c s (length out) .text)) ok
+buffer-given c s out ok = ap (sets out 0) (judge-passed (λ k. []) (partChecks c s (length out)) (part c s (length out) .text) ok)
 
 -- ---- the length
 -- at the head of each turn: the bytes counted, and those still to come

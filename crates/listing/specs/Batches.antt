@@ -1,19 +1,16 @@
--- Script lines in batches: so many lines from a place on as step records, and what a batch of them adds to a listing.
+-- Script lines in batches: so many lines from a place on, and those lines as step records.
+-- For private contracts only; a reader of the claim may skip this.
 use mathlib.Core.Bool.{false, cond}
-use mathlib.Core.List.{List, [], _∷_, _++_}
+use mathlib.Core.List.{List, [], _∷_}
 use Prim.Native.Nat.{ℕ, zero, suc}
 use lib.ListN.{length, drop}
-use lib.Dec.{leb, eqb}
-use Rattle.rules.specs.declared.Board.{Board}
+use lib.Dec.{leb}
 use Rattle.rules.specs.declared.StepRecord.{StepRecord}
 use Rattle.fields.specs.Fields.{upTo}
 use Rattle.script.specs.Lines.{reading}
 use Rattle.script.specs.declared.Reading.{Reading}
 use Rattle.script.specs.declared.Reading.the-variants.{Opens, Asks, Refused}
-use Rattle.rules.specs.declared.Verdict.the-variants.{Working, Finished}
-use Rattle.texts.specs.Texts.{lineText, boardText}
-use Rattle.listing.specs.Scripts.{lineOutcome}
-use Rattle.listing.specs.Parts.{behind, nextNumber}
+use Rattle.listing.specs.Parts.{behind}
 
 -- at most k lines from a place on, and the place behind them
 unfoldable pub linesAt : ℕ → ℕ → List ℕ → List (List ℕ)
@@ -43,23 +40,3 @@ recordsOf (l ∷ ls) = recordOf (reading false l) ∷ recordsOf ls
 unfoldable pub refusalsOf : List (List ℕ) → List ℕ
 refusalsOf [] = []
 refusalsOf (l ∷ ls) = refusalOf (reading false l) ∷ refusalsOf ls
-
--- ---- the board, the line number and the text after a batch of lines
-unfoldable pub boardAfter : Board → List (List ℕ) → Board
-boardAfter b [] = b
-boardAfter b (l ∷ ls) = boardAfter (lineOutcome b (reading false l) .board) ls
-
-unfoldable pub numberAfter : ℕ → List (List ℕ) → ℕ
-numberAfter n [] = n
-numberAfter n (l ∷ ls) = numberAfter (nextNumber n) ls
-
-unfoldable pub batchText : ℕ → Board → List (List ℕ) → List ℕ
-batchText n b [] = []
-batchText n b (l ∷ ls) = boardText n (lineOutcome b (reading false l) .answer) (lineOutcome b (reading false l) .board) ++ batchText (nextNumber n) (lineOutcome b (reading false l) .board) ls
-
--- the lines of a batch from what it gives: refusals of bad lines, answers of steps and debts after them
-unfoldable pub rowsText : ℕ → List ℕ → List ℕ → List ℕ → List ℕ
-rowsText n [] js ds = []
-rowsText n (k ∷ ks) [] ds = []
-rowsText n (k ∷ ks) (j ∷ js) [] = []
-rowsText n (k ∷ ks) (j ∷ js) (d ∷ ds) = lineText n (cond (eqb k 0) j k) d (cond (eqb d 0) Finished Working) ++ rowsText (nextNumber n) ks js ds

@@ -1,4 +1,5 @@
 pub mod Scripts
+pub mod Bounds
 pub mod Parts
 pub mod Listed
 pub mod Batches

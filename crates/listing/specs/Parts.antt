@@ -2,19 +2,19 @@
 use mathlib.Core.Path.{_≡_}
 use mathlib.Core.Bool.{Bool, true, false, not, cond, _&&_, _||_}
 use mathlib.Core.List.{List, [], _∷_, _++_}
-use Prim.Native.Nat.{ℕ, zero, suc, _+_, _-_, _*_, _≤_, min}
+use Prim.Native.Nat.{ℕ, zero, suc, _-_, _≤_, min}
 use lib.ListN.{length, drop}
 use lib.Seq.{sets}
 use lib.Dec.{leb, eqb}
-use Rattle.rules.specs.Facts.{Check, check, atMost, holds, judge}
+use Rattle.rules.specs.Facts.{Check, check, holds, judge}
 use Rattle.rules.specs.Sound.{sound}
 use Rattle.rules.specs.Opening.{blankBoard}
 use Rattle.rules.specs.declared.Outcome.{Outcome}
 use Rattle.placing.specs.declared.Wrote.the-variants.{Count, Refused}
 use Rattle.fields.specs.Fields.{upTo, past}
-use Rattle.script.specs.Lines.{reading, parentsOf}
 use Rattle.texts.specs.Texts.{heading, boardText, refusedText}
-use Rattle.listing.specs.Scripts.{lineOutcome, firstOutcome, listing}
+use Rattle.listing.specs.Scripts.{laterOutcome, startOutcome, listing}
+pub use Rattle.listing.specs.Bounds.{longestPiece, longestLine}
 use Rattle.listing.specs.declared.Cursor.{Cursor}
 use Rattle.listing.specs.declared.Part.{Part}
 
@@ -44,11 +44,8 @@ openedPiece s o =
     (record { text = heading ++ boardText 0 0 (o .board); next = record { begun = true; at = behind 0 s; line = 1; board = o .board } })
     (refusedPiece s (o .answer))
 
--- 26 script over 65,535 bytes, before all; 25 first line missing
 unfoldable pub firstPiece : List ℕ → Piece
-firstPiece s =
-    judge (refusedPiece s) (check (atMost (length s) 65535) 26 ∷ check (atMost 1 (length s)) 25 ∷ [])
-    (openedPiece s (firstOutcome (parentsOf (upTo 10 s)) (reading true (upTo 10 s))))
+firstPiece s = openedPiece s (startOutcome s)
 
 -- a line number has 32 bits: the numbers of a script's lines are far below, a cursor of a caller's own may reach the end of them
 abbrev pub nextNumber : ℕ → ℕ
@@ -61,7 +58,7 @@ laterBy c s o = record {
 }
 
 unfoldable pub laterPiece : Cursor → List ℕ → Piece
-laterPiece c s = laterBy c s (lineOutcome (c .board) (reading false (upTo 10 (drop (c .at) s))))
+laterPiece c s = laterBy c s (laterOutcome (c .board) (upTo 10 (drop (c .at) s)))
 
 unfoldable pub piece : Cursor → List ℕ → Piece
 piece c s = cond (c .begun) (laterPiece c s) (firstPiece s)
@@ -88,30 +85,33 @@ partWithin (suc k) c s room = cond (stops c s room) (record { text = []; next = 
 abbrev pub part : Cursor → List ℕ → ℕ → Piece
 part c s room = partWithin (suc (length s)) c s room
 
--- 26, then 30, of a cursor behind the beginning; 27 where not even the next piece fits
+-- 26, then 30, of a cursor that no listing of this script leads to; 27 where not even the next piece fits. A cursor behind the whole listing
+-- is never refused: its part is empty. (At the beginning, a script that is too long is no refusal of the call: the listing itself tells 26)
 abbrev pub partChecks : Cursor → List ℕ → ℕ → List Check
 partChecks c s room =
-    check (holds (not (c .begun) || leb (length s) 65535)) 26
-    ∷ check (holds (not (c .begun) || sound (c .board))) 30
+    check (holds (not (c .begun) || ended c s || leb (length s) 65535)) 26
+    ∷ check (holds (not (c .begun) || ended c s || sound (c .board))) 30
     ∷ check (holds (ended c s || leb (length (piece c s .text)) room)) 27
     ∷ []
 
-unfoldable pub partOf : Cursor → List ℕ → List ℕ → Part
-partOf c s out =
-    judge (λ k. record { wrote = Refused k; cursor = c }) (partChecks c s (length out))
-    (record { wrote = Count (length (part c s (length out) .text)); cursor = part c s (length out) .next })
-
-unfoldable pub partBuffer : Cursor → List ℕ → List ℕ → List ℕ
-partBuffer c s out = judge (λ k. out) (partChecks c s (length out)) (sets out 0 (part c s (length out) .text))
-
--- ---- calls one after another, with buffers of so many bytes
--- what a call adds to the listing, and the cursor behind it: a refused call adds nothing and keeps the cursor
+-- what a call with a buffer of so many bytes adds to the listing, and the cursor behind it: a refused call adds nothing and keeps the cursor
 abbrev pub callText : Cursor → List ℕ → ℕ → List ℕ
 callText c s room = judge (λ k. []) (partChecks c s room) (part c s room .text)
 
 abbrev pub callNext : Cursor → List ℕ → ℕ → Cursor
 callNext c s room = judge (λ k. c) (partChecks c s room) (part c s room .next)
 
+-- what it gives, and how it leaves its buffer
+unfoldable pub partOf : Cursor → List ℕ → List ℕ → Part
+partOf c s out = record {
+  wrote = judge Refused (partChecks c s (length out)) (Count (length (part c s (length out) .text)));
+  cursor = callNext c s (length out);
+}
+
+unfoldable pub partBuffer : Cursor → List ℕ → List ℕ → List ℕ
+partBuffer c s out = sets out 0 (callText c s (length out))
+
+-- ---- calls one after another, with buffers of so many bytes
 unfoldable pub joined : Cursor → List ℕ → List ℕ → List ℕ
 joined c s [] = []
 joined c s (room ∷ rooms) = callText c s room ++ joined (callNext c s room) s rooms
@@ -127,18 +127,6 @@ piecesWithin (suc k) c s = cond (ended c s) 0 (suc (piecesWithin k (piece c s .n
 
 abbrev pub pieces : Cursor → List ℕ → ℕ
 pieces c s = piecesWithin (suc (length s)) c s
-
--- no piece is longer: the heading, and a first line of 15 bytes
-abbrev pub longestPiece : ℕ
-longestPiece = 38
-
--- no line behind the first is longer: 10 digits, 2 and 13, a word of 8 bytes, 3 tabs and byte 10
-abbrev pub longestLine : ℕ
-longestLine = 37
-
--- no listing is longer: a script of 65,535 bytes has at most 65,534 lines behind its first
-unfoldable pub ListingBound : Type 0
-ListingBound = (s : List ℕ) → length (listing s) ≤ longestPiece + longestLine * 65534
 
 unfoldable pub AllAtLeast : ℕ → List ℕ → Type 0
 AllAtLeast n [] = Unit {0}

@@ -1,4 +1,5 @@
--- What the calls inside a listing in parts give: the outcome of the first line, and a batch of lines gathered and written.
+-- What the calls inside a listing in parts give: the place behind the first line, and a batch of lines gathered and written.
+-- For private contracts only; a reader of the claim may skip this.
 use mathlib.Core.Bool.{true, cond}
 use mathlib.Core.List.{List, [], _∷_}
 use mathlib.Core.Path.{_≡_}
@@ -7,28 +8,17 @@ use lib.ListN.{length, take}
 use lib.Dec.{eqb}
 use lib.Seq.{sets}
 use Rattle.rules.specs.Runs.{batchMost}
-use Rattle.rules.specs.Facts.{check, atMost, judge}
-use Rattle.rules.specs.Opening.{blankBoard}
-use Rattle.rules.specs.declared.Outcome.{Outcome}
 use Rattle.rules.specs.declared.Verdict.the-variants.{Working, Finished}
 use Rattle.placing.specs.Placing.{wrote, written}
 use Rattle.placing.specs.declared.Wrote.{Wrote}
 use Rattle.placing.specs.declared.Wrote.the-variants.{Count, Refused}
-use Rattle.fields.specs.Fields.{upTo}
-use Rattle.script.specs.Lines.{reading, parentsOf}
-use Rattle.listing.specs.Scripts.{firstOutcome}
 use Rattle.texts.specs.Texts.{lineText}
-use Rattle.listing.specs.Parts.{behind, nextNumber, partWithin, longestLine}
+use Rattle.listing.specs.Bounds.{longestLine}
+use Rattle.listing.specs.Parts.{behind, nextNumber, partWithin}
 use Rattle.listing.specs.Batches.{recordsOf, refusalsOf}
 use Rattle.listing.specs.declared.Cursor.{Cursor}
 use Rattle.listing.specs.declared.gathering.Gathered.{Gathered}
 use Rattle.listing.specs.declared.turns.Progress.{Progress}
-
--- the outcome of a script's first line; 26 and 25 stand before it
-unfoldable pub startOutcome : List ℕ → Outcome
-startOutcome s =
-    judge (λ k. record { answer = k; board = blankBoard }) (check (atMost (length s) 65535) 26 ∷ check (atMost 1 (length s)) 25 ∷ [])
-    (firstOutcome (parentsOf (upTo 10 s)) (reading true (upTo 10 s)))
 
 -- where the first piece leaves off, by its answer: behind the first line, or behind the whole script
 abbrev pub startPlace : List ℕ → ℕ → ℕ

@@ -1,4 +1,5 @@
 // The listing of a script, in parts and at once.
+mod cursors;
 mod gathering;
 mod parts;
 mod rows;
@@ -6,11 +7,11 @@ mod starting;
 mod turns;
 mod whole;
 
+pub use cursors::beginning;
+pub use cursors::is_ended;
 pub use parts::list_part;
 use placing::Wrote;
 use rules::Board;
-pub use whole::beginning;
-pub use whole::is_ended;
 pub use whole::list_all;
 pub use whole::listing_length;
 

@@ -12,18 +12,15 @@ use placing::Wrote;
 use rules::Board;
 ghost use mathlib.Core.Path.{_≡_};
 ghost use mathlib.Core.Bool.{true, false};
-ghost use Rattle.placing.specs.declared.Wrote.the-variants.{Count, Refused};
+ghost use Rattle.placing.specs.declared.Wrote.the-variants.{Count};
 ghost use Rattle.listing.specs.Parts.{partOf, partBuffer};
 ghost use Rattle.listing.specs.Turns.{cursorOf};
 
-// A refused call keeps its cursor.
-fn refused_part(k: u16, c: Cursor) -> Part
-    ensures { λ r. ⌜ r ≡ record { wrote = Refused k; cursor = c } ⌝ }
+// A call that writes nothing keeps its cursor.
+fn kept(wrote: Wrote, c: Cursor) -> Part
+    ensures { λ r. ⌜ r ≡ record { wrote = wrote; cursor = c } ⌝ }
 {
-    Part {
-        wrote: Wrote::Refused(k),
-        cursor: c,
-    }
+    Part { wrote, cursor: c }
 }
 
 fn part_at(p: Progress) -> Part
@@ -46,12 +43,16 @@ fn list_later(c: Cursor, script: &[u8], out: &mut [u8]) -> Part
     requires { ⌜ c .begun ≡ true ⌝ }
     ensures { λ r. ⌜ (r ≡ partOf c (now (script .entry)) (now (out .entry))) × (now (out .exit) ≡ partBuffer c (now (script .entry)) (now (out .entry))) ⌝ }
 {
-    if script.len() > 65535 {
-        return refused_part(26, c);
+    if c.at >= script.len() {
+        return kept(Wrote::Count(0), c);
     }
     let board = c.board;
-    if !is_sound(board) {
-        return refused_part(30, c);
+    let safe = is_sound(board);
+    if script.len() > 65535 {
+        return kept(Wrote::Refused(26), c);
+    }
+    if !safe {
+        return kept(Wrote::Refused(30), c);
     }
     let start = Progress {
         at: c.at,
@@ -60,10 +61,8 @@ fn list_later(c: Cursor, script: &[u8], out: &mut [u8]) -> Part
         to: 0,
     };
     let p = list_lines(start, script, out);
-    if c.at < script.len() {
-        if p.to == 0 {
-            return refused_part(27, c);
-        }
+    if p.to == 0 {
+        return kept(Wrote::Refused(27), c);
     }
     part_at(p)
 }
@@ -76,7 +75,7 @@ fn list_first(c: Cursor, script: &[u8], out: &mut [u8]) -> Part
     let board = o.board;
     let to = write_first(o.answer, board.debt, finished(board), out);
     if to == 0 {
-        return refused_part(27, c);
+        return kept(Wrote::Refused(27), c);
     }
     let start = Progress {
         at: start_place(o.answer, script),
@@ -87,7 +86,8 @@ fn list_first(c: Cursor, script: &[u8], out: &mut [u8]) -> Part
     part_at(list_lines(start, script, out))
 }
 
-// Refused by 26 or 30 where the cursor is none that a listing of this script leads to, by 27 where not even the next line fits.
+// Refused by 26 or 30 where the cursor is none that a listing of this script leads to, by 27 where not even the next line fits. Behind the
+// whole listing there is nothing to write and nothing to refuse.
 pub fn list_part(c: Cursor, script: &[u8], out: &mut [u8]) -> Part
     ensures { λ r. ⌜ (r ≡ partOf c (now (script .entry)) (now (out .entry))) × (now (out .exit) ≡ partBuffer c (now (script .entry)) (now (out .entry))) ⌝ }
 {

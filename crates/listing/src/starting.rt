@@ -4,6 +4,7 @@ use crate::gathering::behind;
 use crate::rows::bytes_of;
 use board::open;
 use fields::end_from;
+use rules::Board;
 use rules::Outcome;
 use rules::Verdict;
 use script::Reading;
@@ -13,28 +14,29 @@ use texts::write_heading;
 use texts::write_line;
 ghost use mathlib.Core.Path.{_≡_};
 ghost use mathlib.Core.Bool.{true};
-ghost use mathlib.Core.List.{[], _++_};
-ghost use Rattle.rules.specs.Opening.{opening};
+ghost use mathlib.Core.List.{_++_};
+ghost use Rattle.rules.specs.Opening.{blankBoard, opening};
 ghost use Rattle.script.specs.Lines.{reading, parentsOf};
 ghost use Rattle.script.specs.declared.Reading.the-variants.{Opens};
 ghost use Rattle.placing.specs.Placing.{wrote, written};
 ghost use Rattle.texts.specs.Texts.{heading, lineText};
-ghost use Rattle.listing.specs.Scripts.{firstOutcome};
-ghost use Rattle.listing.specs.Turns.{bytesOf, startOutcome, startPlace};
+ghost use Rattle.listing.specs.Scripts.{refusedBy, firstOutcome, startOutcome};
+ghost use Rattle.listing.specs.Turns.{bytesOf, startPlace};
 
-// An opening of no slot is refused, with a blank board.
-pub(crate) fn no_opening() -> Outcome
-    ensures { λ o. ⌜ o ≡ opening 0 0 [] ⌝ }
+// What a refused opening hands back: one of no slot is.
+pub(crate) fn blank_board() -> Board
+    ensures { λ b. ⌜ b ≡ blankBoard ⌝ }
 {
     let none = [0u16; 1];
-    open(0, 0, &none[0..0])
+    let o = open(0, 0, &none[0..0]);
+    let board = o.board;
+    board
 }
 
 fn refused(answer: u16) -> Outcome
-    ensures { λ o. ⌜ o ≡ record { answer = answer; board = opening 0 0 [] .board } ⌝ }
+    ensures { λ o. ⌜ o ≡ refusedBy answer ⌝ }
 {
-    let o = no_opening();
-    let board = o.board;
+    let board = blank_board();
     Outcome { answer, board }
 }
 
@@ -54,7 +56,7 @@ fn first_outcome(line: &[u8]) -> Outcome
     let r = read_line(line, true);
     match r {
         Reading::Opens(m, d, parents) => opened(line, m, d, parents),
-        Reading::Asks(_) => no_opening(),
+        Reading::Asks(_) => refused(25),
         Reading::Refused(k) => refused(k),
     }
 }

@@ -1,38 +1,13 @@
 // A listing at once, and how long it is.
-use crate::Cursor;
+use crate::cursors::beginning;
+use crate::cursors::is_ended;
 use crate::parts::list_part;
 use crate::rows::bytes_of;
-use crate::starting::no_opening;
 use placing::Wrote;
 ghost use mathlib.Core.Path.{_≡_};
 ghost use lib.ListN.{length};
 ghost use Rattle.placing.proofs.WriteLaws.{Writes};
 ghost use Rattle.listing.specs.Scripts.{listing};
-ghost use Rattle.listing.specs.Parts.{beginning, ended};
-
-// The cursor from which a listing in parts begins.
-pub fn beginning() -> Cursor
-    ensures { λ c. ⌜ c ≡ beginning ⌝ }
-{
-    let o = no_opening();
-    let board = o.board;
-    Cursor {
-        begun: false,
-        at: 0,
-        line: 0,
-        board,
-    }
-}
-
-// Whether a cursor is behind the whole listing.
-pub fn is_ended(c: Cursor, script: &[u8]) -> bool
-    ensures { λ r. ⌜ r ≡ ended c (now (script .entry)) ⌝ }
-{
-    if c.begun {
-        return script.len() <= c.at;
-    }
-    false
-}
 
 // Listed in parts, which are counted and thrown away.
 pub fn listing_length(script: &[u8]) -> usize

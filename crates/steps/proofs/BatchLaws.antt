@@ -70,12 +70,12 @@ filled-end steps n b z i ks ds l =
     ap (λ (qs : List StepRecord). filled b qs z i ks ds) (drop-of-length-le (take n steps) {i = i} (omega (arith, length-take n steps))) ∙ filled-none b z i ks ds
 
 -- ---- the whole
-answers-length : (b : Board) (rs : List StepRecord) → length (answers b rs) ≡ length rs
+pub answers-length : (b : Board) (rs : List StepRecord) → length (answers b rs) ≡ length rs
 unfolding answers
 answers-length b [] = refl
 answers-length b (r ∷ rs) = ap suc (answers-length (step b r .board) rs)
 
-debts-length : (b : Board) (rs : List StepRecord) → length (debts b rs) ≡ length rs
+pub debts-length : (b : Board) (rs : List StepRecord) → length (debts b rs) ≡ length rs
 unfolding debts
 debts-length b [] = refl
 debts-length b (r ∷ rs) = ap suc (debts-length (step b r .board) rs)

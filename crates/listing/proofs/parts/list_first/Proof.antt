@@ -13,8 +13,8 @@ finished-requires c κs = search needs
 write-first-requires : tie.Need-write-first-requires
 write-first-requires c κs = search needs
 
-refused-part-requires : tie.Need-refused-part-requires
-refused-part-requires c κs = search needs
+kept-requires : tie.Need-kept-requires
+kept-requires c κs = search needs
 
 same-length : tie.Need-same-length
 same-length c = search needs
@@ -23,7 +23,7 @@ returns : tie.Need-returns
 returns c =
     let wrote = c .before .before .before .before in
     let start = wrote .before .before .before .before .before .before .before in
-    start-27 (start .args .c) (start .args .script .now) (start .args .out .now) (start .pre) (wrote .before .before .before .before .start-outcome .ensures) (wrote .before .before .finished .ensures .0) (wrote .write-first .ensures .0) (wrote .write-first .ensures .1) (c .before .if1 .taken) (c .refused-part .ensures)
+    start-27 (start .args .c) (start .args .script .now) (start .args .out .now) (start .pre) (wrote .before .before .before .before .start-outcome .ensures) (wrote .before .before .finished .ensures .0) (wrote .write-first .ensures .0) (wrote .write-first .ensures .1) (c .before .if1 .taken) (c .kept .ensures)
 
 start-place-requires : tie.Need-start-place-requires
 start-place-requires c κs = search needs
@@ -53,7 +53,7 @@ list-first-spec =
     start-outcome-requires
     finished-requires
     write-first-requires
-    refused-part-requires
+    kept-requires
     same-length
     returns
     start-place-requires

@@ -18,14 +18,14 @@ opened-requires c κs = sym (c .before .before .before .read-line .ensures) ∙ 
 enum-told : tie.Need-enum-told
 enum-told c = search needs
 
-no-opening-requires : tie.Need-no-opening-requires
-no-opening-requires c κs = search needs
+refused-requires : tie.Need-refused-requires
+refused-requires c κs = search needs
 
 enum-known-r-2 : tie.Need-enum-known-r-2
 enum-known-r-2 c = search needs
 
-refused-requires : tie.Need-refused-requires
-refused-requires c κs = search needs
+refused-requires-2 : tie.Need-refused-requires-2
+refused-requires-2 c κs = search needs
 
 returns : tie.Need-returns
 returns c =
@@ -35,12 +35,12 @@ returns c =
 returns-2 : tie.Need-returns-2
 returns-2 c =
     let read = c .before .before .before in
-    c .no-opening .ensures ∙ ap (firstOutcome (parentsOf (read .before .before .args .line .now))) (sym (c .before .enum-told .given .1) ∙ read .read-line .ensures)
+    c .refused .ensures ∙ ap (firstOutcome (parentsOf (read .before .before .args .line .now))) (sym (c .before .enum-told .given .1) ∙ read .read-line .ensures)
 
 returns-3 : tie.Need-returns-3
 returns-3 c =
     let read = c .before .before .before .before in
-    c .refused .ensures ∙ ap (firstOutcome (parentsOf (read .before .before .args .line .now))) (sym (c .before .before .r2 .given .1) ∙ read .read-line .ensures)
+    c .refused2 .ensures ∙ ap (firstOutcome (parentsOf (read .before .before .args .line .now))) (sym (c .before .before .r2 .given .1) ∙ read .read-line .ensures)
 
 pub first-outcome-spec : {M : Type 1} → statement M
 first-outcome-spec =
@@ -50,9 +50,9 @@ first-outcome-spec =
     enum-known-r
     opened-requires
     enum-told
-    no-opening-requires
-    enum-known-r-2
     refused-requires
+    enum-known-r-2
+    refused-requires-2
     returns
     returns-2
     returns-3)

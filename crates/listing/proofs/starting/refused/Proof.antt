@@ -1,15 +1,15 @@
--- `starting::refused` meets its contract: the board is that of the refused opening.
+-- `starting::refused` meets its contract: the board is the blank one.
 use mathlib.Core.Path.{ap}
-use Rattle.rules.specs.declared.Outcome.{Outcome}
+use Rattle.rules.specs.declared.Board.{Board}
 use borrow.Author.Needs.{needs}
 use Rattle.listing.proofs.starting.refused.Statement.{statement}
 use Rattle.listing.proofs.starting.refused.Tie as tie
 
-no-opening-requires : tie.Need-no-opening-requires
-no-opening-requires c κs = search needs
+blank-board-requires : tie.Need-blank-board-requires
+blank-board-requires c κs = search needs
 
 returns : tie.Need-returns
-returns c = ap (λ (o : Outcome). record { answer = c .before .before .args .answer; board = o .board }) (c .before .no-opening .ensures)
+returns c = ap (λ (b : Board). record { answer = c .before .args .answer; board = b }) (c .blank-board .ensures)
 
 pub refused-spec : {M : Type 1} → statement M
-refused-spec = tie.close (tie.spec no-opening-requires returns)
+refused-spec = tie.close (tie.spec blank-board-requires returns)

@@ -7,7 +7,8 @@ use native.Mathlib.Omega.{arith}
 use borrow.Author.Needs.{needs}
 use borrow.Author.Tests.{not-true, not-false}
 use lib.ListN.{length}
-use Rattle.listing.specs.Parts.{ended, longestPiece}
+use Rattle.listing.specs.Bounds.{longestPiece}
+use Rattle.listing.specs.Parts.{ended}
 use Rattle.listing.proofs.PieceLaws.{turns}
 use Rattle.listing.proofs.WholeLaws.{Counting, counting-begins, counting-ends, counting-goes, counting-fits, counting-less}
 use Rattle.listing.proofs.whole.listing_length.Statement.{statement}

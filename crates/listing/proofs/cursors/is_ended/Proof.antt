@@ -1,11 +1,11 @@
--- `whole::is_ended` meets its contract: the test of the beginning picks the case.
+-- `cursors::is_ended` meets its contract: the test of the beginning picks the case.
 use mathlib.Core.Path.{sym, ap}
 use mathlib.Core.Bool.{Bool, _&&_}
 use lib.ListN.{length}
 use lib.Dec.{leb}
 use borrow.Author.Needs.{needs}
-use Rattle.listing.proofs.whole.is_ended.Statement.{statement}
-use Rattle.listing.proofs.whole.is_ended.Tie as tie
+use Rattle.listing.proofs.cursors.is_ended.Statement.{statement}
+use Rattle.listing.proofs.cursors.is_ended.Tie as tie
 
 returns : tie.Need-returns
 returns c = ap (λ (t : Bool). t && leb (length (c .before .before .args .script .now)) (c .before .before .args .c .at)) (sym (c .before .if1 .taken))
