@@ -4,7 +4,7 @@ ghost use mathlib.Core.Path.{_≡_};
 ghost use Prim.Native.Nat.{_+_, _^_, _≤_, _<_};
 ghost use lib.ListN.{length};
 ghost use lib.Seq.{sets};
-ghost use Rattle.placing.specs.Placing.{wrote, written};
+ghost use Rattle.placing.specs.Placing.{Writes};
 ghost use Rattle.decimal.specs.Reading.{numberOf};
 ghost use Rattle.decimal.specs.Spelling.{spell, spelled, digitCount};
 
@@ -100,7 +100,7 @@ fn spell_in(n: u64, k: usize, out: &mut [u8], at: usize)
 
 // The place is tested first: at + n can wrap.
 pub fn put_number(n: u64, out: &mut [u8], at: usize) -> Wrote
-    ensures { λ r. ⌜ (r ≡ wrote (spelled n) at (now (out .entry))) × (now (out .exit) ≡ written (spelled n) at (now (out .entry))) ⌝ }
+    ensures { λ r. ⌜ Writes (spelled n) at (now (out .entry)) r (now (out .exit)) ⌝ }
 {
     let k = digit_count(n);
     if at > out.len() {

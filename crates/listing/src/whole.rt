@@ -6,7 +6,7 @@ use crate::starting::no_opening;
 use placing::Wrote;
 ghost use mathlib.Core.Path.{_≡_};
 ghost use lib.ListN.{length};
-ghost use Rattle.placing.proofs.WriteLaws.{Writes};
+ghost use Rattle.placing.specs.Placing.{Writes};
 ghost use Rattle.listing.specs.Scripts.{listing};
 ghost use Rattle.listing.specs.Parts.{beginning, ended};
 

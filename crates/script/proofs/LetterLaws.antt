@@ -6,10 +6,10 @@ use Prim.Native.Nat.{ℕ, _+_, _-_, _≤_, _<_}
 use native.Mathlib.Omega.{arith}
 use lib.ListN.{length, take, getD, set, length-append}
 use lib.Seq.{sets, sets-eq, take-at}
+use Rattle.placing.specs.Placing.{Writes}
 use Rattle.placing.specs.declared.Wrote.{Wrote}
 use Rattle.placing.specs.declared.Wrote.the-variants.{Refused}
 use Rattle.placing.proofs.Stores.{sets-append}
-use Rattle.placing.proofs.WriteLaws.{Writes}
 use Rattle.rules.specs.Steps.{actionOf}
 use Rattle.rules.specs.Letters.{isKnown}
 use Rattle.rules.specs.declared.Action.{Action}

@@ -9,7 +9,7 @@ ghost use Prim.Native.Nat.{suc, _+_, _≤_};
 ghost use lib.ListN.{length, take};
 ghost use lib.Seq.{sets};
 ghost use Rattle.rules.specs.Steps.{actionOf};
-ghost use Rattle.placing.specs.Placing.{wrote, written};
+ghost use Rattle.placing.specs.Placing.{Writes};
 ghost use Rattle.decimal.specs.Spelling.{spelled};
 ghost use Rattle.script.specs.Writing.{lettersOf, tabbed, stepText, stepWrote, stepWritten};
 
@@ -72,7 +72,7 @@ fn put_tabbed(ns: &[u16], out: &mut [u8], at: usize) -> usize
 // The line at the start of a buffer. It is put together apart, so that its whole length is known before the buffer changes.
 fn step_line(r: StepRecord, out: &mut [u8]) -> Wrote
     requires { ⌜ (1 ≤ r .kind) × (r .kind ≤ 7) ⌝ }
-    ensures { λ w. ⌜ (w ≡ wrote (stepText r) 0 (now (out .entry))) × (now (out .exit) ≡ written (stepText r) 0 (now (out .entry))) ⌝ }
+    ensures { λ w. ⌜ Writes (stepText r) 0 (now (out .entry)) w (now (out .exit)) ⌝ }
 {
     let mut text = [0u8; 32];
     let from = put_word(r.kind, &mut text);

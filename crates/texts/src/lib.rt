@@ -9,7 +9,7 @@ ghost use mathlib.Core.List.{[], _∷_, _++_};
 ghost use Prim.Native.Nat.{suc, _+_, _≤_};
 ghost use lib.ListN.{length};
 ghost use lib.Seq.{sets};
-ghost use Rattle.placing.proofs.WriteLaws.{Writes};
+ghost use Rattle.placing.specs.Placing.{Writes};
 ghost use Rattle.decimal.specs.Spelling.{spelled, digitCount};
 ghost use Rattle.texts.specs.Texts.{heading, lineWith, lineText};
 
