@@ -9,9 +9,6 @@ pub use numbers::read_parents;
 use rules::StepRecord;
 pub use writing::write_step;
 
-// What parts the fields of a line.
-const TAB: u8 = 9;
-
 // What a line of a script says: a board line with M, d and the number of its parents, a step, or the number that refuses the line.
 pub enum Reading {
     Opens(u16, u16, u16),

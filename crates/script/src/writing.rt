@@ -1,16 +1,13 @@
 // Writing a step as a line of a script.
-use crate::TAB;
 use crate::words::put_word;
 use placing::Wrote;
 use rules::StepRecord;
 ghost use mathlib.Core.Path.{_≡_};
-ghost use mathlib.Core.List.{_∷_};
-ghost use Prim.Native.Nat.{suc, _+_, _≤_};
+ghost use Prim.Native.Nat.{_+_, _≤_};
 ghost use lib.ListN.{length, take};
 ghost use lib.Seq.{sets};
 ghost use Rattle.rules.specs.Steps.{actionOf};
 ghost use Rattle.placing.specs.Placing.{Writes};
-ghost use Rattle.decimal.specs.Spelling.{spelled};
 ghost use Rattle.script.specs.Writing.{lettersOf, tabbed, stepText, stepWrote, stepWritten};
 
 // The values of a step's letters in their order: the first `count` of the list.
@@ -44,15 +41,10 @@ fn letters_of(r: StepRecord) -> Letters
     }
 }
 
-// A tab and a number; the answer is the place behind them.
-fn put_tabbed_number(n: u16, out: &mut [u8], at: usize) -> usize
-    requires { ⌜ at + suc (length (spelled n)) ≤ length (now out) ⌝ }
-    ensures { λ e. ⌜ (e ≡ at + suc (length (spelled n))) × (now (out .exit) ≡ sets (now (out .entry)) at (9 ∷ spelled n)) ⌝ }
+fn wide(n: u16) -> u64
+    ensures { λ r. ⌜ r ≡ n ⌝ }
 {
-    out[at] = TAB;
-    let to = at + 1;
-    decimal::put_number(n as u64, out, to);
-    to + decimal::digit_count(n as u64)
+    n as u64
 }
 
 // Each number behind a tab; the answer is the place behind them all.
@@ -63,7 +55,9 @@ fn put_tabbed(ns: &[u16], out: &mut [u8], at: usize) -> usize
     let mut to = at;
     let mut i = 0;
     while i < ns.len() {
-        to = put_tabbed_number(ns[i], out, to);
+        let n = wide(ns[i]);
+        decimal::put_tabbed_number(n, out, to);
+        to = to + 1 + decimal::digit_count(n);
         i += 1;
     }
     to
