@@ -1,6 +1,6 @@
 -- The line of a step: its letters are few and small, so it is short; how it is put together, and written at a place of a buffer.
 use mathlib.Core.Path.{_≡_, refl, sym, _∙_}
-use mathlib.Core.Bool.{false}
+use mathlib.Core.Bool.{true, false}
 use mathlib.Core.List.{List, [], _∷_}
 use Prim.Native.Nat.{ℕ, _+_, _-_, _≤_, _<_}
 use native.Mathlib.Omega.{arith}
@@ -18,7 +18,7 @@ use Rattle.rules.specs.declared.Action.the-variants.{Unknown, Start, Send, Requ
 use Rattle.rules.specs.declared.StepRecord.{StepRecord}
 use Rattle.script.specs.Words.{words}
 use Rattle.script.specs.Writing.{lettersOf, tabbed, stepLine, stepText, stepWrote, stepWritten}
-use Rattle.script.proofs.KindLaws.{by-kind, known-in}
+use Rattle.script.proofs.KindLaws.{by-kind}
 use Rattle.script.proofs.TabLaws.{Small, tabbed-length}
 
 -- the rows: a step has at most three letters, and each is small
@@ -83,6 +83,6 @@ module _ (r : StepRecord) (at : ℕ) (out : List ℕ) where
   unfolding stepWrote stepWritten
   step-unknown e = (rw e, rw e)
 
-  pub step-known : 1 ≤ r .kind → r .kind ≤ 7 → {w : Wrote} {left : List ℕ} → Writes (stepText r) at out w left → StepWrites w left
+  pub step-known : isKnown (actionOf (r .kind)) ≡ true → {w : Wrote} {left : List ℕ} → Writes (stepText r) at out w left → StepWrites w left
   unfolding stepWrote stepWritten
-  step-known l u h = let e = known-in (r .kind) l u in (rw e (h .0), rw e (h .1))
+  step-known e h = (rw e (h .0), rw e (h .1))

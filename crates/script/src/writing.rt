@@ -7,6 +7,7 @@ ghost use Prim.Native.Nat.{_+_, _≤_};
 ghost use lib.ListN.{length, take};
 ghost use lib.Seq.{sets};
 ghost use Rattle.rules.specs.Steps.{actionOf};
+ghost use Rattle.rules.specs.Letters.{isKnown};
 ghost use Rattle.placing.specs.Placing.{Writes};
 ghost use Rattle.script.specs.Writing.{lettersOf, tabbed, stepText, stepWrote, stepWritten};
 
@@ -79,14 +80,21 @@ fn step_line(r: StepRecord, out: &mut [u8]) -> Wrote
     placing::put_bytes(&text[0..n], out, 0)
 }
 
+fn is_kind(kind: u16) -> bool
+    ensures { λ t. ⌜ t ≡ isKnown (actionOf kind) ⌝ }
+{
+    if kind < 1 {
+        return false;
+    }
+    kind <= 7
+}
+
 // The kind is tested before the place.
 pub fn write_step(r: StepRecord, out: &mut [u8], at: usize) -> Wrote
     ensures { λ w. ⌜ (w ≡ stepWrote r at (now (out .entry))) × (now (out .exit) ≡ stepWritten r at (now (out .entry))) ⌝ }
 {
-    if r.kind < 1 {
-        return Wrote::Refused(16);
-    }
-    if r.kind > 7 {
+    let known = is_kind(r.kind);
+    if !known {
         return Wrote::Refused(16);
     }
     if at > out.len() {
