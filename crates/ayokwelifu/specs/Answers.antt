@@ -15,12 +15,6 @@ abbrev pub cellAfter : ℕ → Wrote → ℕ
 cellAfter old (Count n) = n
 cellAfter old (Refused k) = old
 
--- 25 for a board line, which is no step
-abbrev pub stepNumber : Reading → ℕ
-stepNumber (reading.Opens m d parents) = 25
-stepNumber (reading.Asks r) = 0
-stepNumber (reading.Refused k) = k
-
 -- what the four cells hold after the call, where they held old
 abbrev pub stepAfter : StepRecord → Reading → StepRecord
 stepAfter old (reading.Opens m d parents) = old

@@ -8,9 +8,9 @@ use script::write_step;
 ghost use mathlib.Core.Path.{_≡_};
 ghost use mathlib.Core.Bool.{false};
 ghost use Rattle.rules.specs.declared.StepRecord.{StepRecord};
-ghost use Rattle.script.specs.Lines.{reading};
+ghost use Rattle.script.specs.Lines.{reading, refusalBy};
 ghost use Rattle.script.specs.Writing.{stepWrote, stepWritten};
-ghost use Rattle.ayokwelifu.specs.Answers.{numberOf, cellAfter, stepNumber, stepAfter};
+ghost use Rattle.ayokwelifu.specs.Answers.{numberOf, cellAfter, stepAfter};
 
 // The line, with its byte 10, goes to the buffer from the place on and its length to the cell, or 16 or 27 and both as they were.
 #[no_mangle]
@@ -38,16 +38,6 @@ pub extern "C" fn ayokwelifu_write_step(
     number_of(w)
 }
 
-fn step_number(x: Reading) -> u16
-    ensures { λ k. ⌜ k ≡ stepNumber x ⌝ }
-{
-    match x {
-        Reading::Opens(_, _, _) => 25,
-        Reading::Asks(_) => 0,
-        Reading::Refused(k) => k,
-    }
-}
-
 fn step_after(old: StepRecord, x: Reading) -> StepRecord
     ensures { λ r. ⌜ r ≡ stepAfter old x ⌝ }
 {
@@ -67,7 +57,7 @@ pub extern "C" fn ayokwelifu_read_step(
     other: &mut u16,
     slot: &mut u16,
 ) -> u16
-    ensures number { λ k. ⌜ k ≡ stepNumber (reading false (now (line .entry))) ⌝ }
+    ensures number { λ k. ⌜ k ≡ refusalBy (reading false (now (line .entry))) ⌝ }
     ensures cells { λ k. ⌜ _≡_ {A = StepRecord} (record { kind = now (kind .exit); unit = now (unit .exit); other = now (other .exit); slot = now (slot .exit) }) (stepAfter (record { kind = now (kind .entry); unit = now (unit .entry); other = now (other .entry); slot = now (slot .entry) }) (reading false (now (line .entry)))) ⌝ }
 {
     let x = read_line(line, false);
@@ -82,5 +72,5 @@ pub extern "C" fn ayokwelifu_read_step(
     *unit = r.unit;
     *other = r.other;
     *slot = r.slot;
-    step_number(x)
+    x.refusal()
 }

@@ -1,10 +1,13 @@
-// Decimal numbers as bytes: a field read as a number of 16 bits, a number of 64 bits written in digits.
+// Decimal numbers as bytes: a field read as a number of 16 bits, a number of 64 bits written in digits, by itself or behind a tab.
+use fields::TAB;
 use placing::Wrote;
 ghost use mathlib.Core.Path.{_≡_};
+ghost use mathlib.Core.List.{_∷_};
 ghost use Prim.Native.Nat.{_+_, _^_, _≤_, _<_};
 ghost use lib.ListN.{length};
 ghost use lib.Seq.{sets};
-ghost use Rattle.placing.specs.Placing.{wrote, written};
+ghost use Rattle.placing.specs.Placing.{Writes};
+ghost use Rattle.fields.specs.Fields.{tab};
 ghost use Rattle.decimal.specs.Reading.{numberOf};
 ghost use Rattle.decimal.specs.Spelling.{spell, spelled, digitCount};
 
@@ -100,7 +103,7 @@ fn spell_in(n: u64, k: usize, out: &mut [u8], at: usize)
 
 // The place is tested first: at + n can wrap.
 pub fn put_number(n: u64, out: &mut [u8], at: usize) -> Wrote
-    ensures { λ r. ⌜ (r ≡ wrote (spelled n) at (now (out .entry))) × (now (out .exit) ≡ written (spelled n) at (now (out .entry))) ⌝ }
+    ensures { λ r. ⌜ Writes (spelled n) at (now (out .entry)) r (now (out .exit)) ⌝ }
 {
     let k = digit_count(n);
     if at > out.len() {
@@ -111,4 +114,20 @@ pub fn put_number(n: u64, out: &mut [u8], at: usize) -> Wrote
     }
     spell_in(n, k, out, at);
     Wrote::Count(k)
+}
+
+// A tab and a number behind it: both are written, or neither.
+pub fn put_tabbed_number(n: u64, out: &mut [u8], at: usize) -> Wrote
+    ensures { λ r. ⌜ Writes (tab ∷ spelled n) at (now (out .entry)) r (now (out .exit)) ⌝ }
+{
+    let k = digit_count(n);
+    if at > out.len() {
+        return Wrote::Refused(27);
+    }
+    if k >= out.len() - at {
+        return Wrote::Refused(27);
+    }
+    out[at] = TAB;
+    spell_in(n, k, out, at + 1);
+    Wrote::Count(k + 1)
 }

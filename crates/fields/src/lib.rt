@@ -5,7 +5,7 @@ ghost use denote.Ref.{ptr};
 ghost use Rattle.fields.specs.Fields.{fieldOf, fieldStart, fieldCount, endFrom};
 
 // What parts the fields of a line.
-const TAB: u8 = 9;
+pub const TAB: u8 = 9;
 
 // The place of the first byte e at or after a place, or the end: a field's end for a tab, a line's for byte 10.
 pub fn end_from(s: &[u8], from: usize, e: u8) -> usize

@@ -11,9 +11,10 @@ use borrow.Author.Tests.{le-leb, leb-false, not-true}
 use Rattle.rules.specs.Facts.{Claims}
 use Rattle.rules.proofs.FactLaws.{true-not-false, asked, judge-passed}
 use Rattle.rules.proofs.SoundLaws.{below-or-not}
+use Rattle.placing.specs.Placing.{Writes}
 use Rattle.placing.specs.declared.Wrote.{Wrote}
 use Rattle.placing.specs.declared.Wrote.the-variants.{Count, Refused}
-use Rattle.placing.proofs.WriteLaws.{Writes, places}
+use Rattle.placing.proofs.WriteLaws.{places}
 use Rattle.listing.specs.Scripts.{listing}
 use Rattle.listing.specs.Bounds.{longestPiece, longestLine, ListingBound}
 use Rattle.listing.specs.Parts.{Piece, beginning, ended, piece, rest, stops, part, partChecks, callNext, partOf, partBuffer}

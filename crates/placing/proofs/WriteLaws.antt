@@ -10,14 +10,10 @@ use lib.ListN.{length}
 use lib.Seq.{sets, length-sets}
 use borrow.Author.Tests.{le-leb, lt-leb, leb-true, leb-false}
 use borrow.Rule.Slice.PartMut.{mid-len}
-use Rattle.placing.specs.Placing.{wrote, written}
+use Rattle.placing.specs.Placing.{wrote, written, Writes}
 use Rattle.placing.proofs.Stores.{sets-append, restOf, putRest, put-rest-same, put-rest-sets}
 use Rattle.placing.specs.declared.Wrote.{Wrote}
 use Rattle.placing.specs.declared.Wrote.the-variants.{Count, Refused}
-
--- what a writer of text promises of its answer r and of the buffer left that it leaves
-abbrev pub Writes : List ℕ → ℕ → List ℕ → Wrote → List ℕ → Type 0
-Writes text at out r left = (r ≡ wrote text at out) × (left ≡ written text at out)
 
 module _ (text : List ℕ) (at : ℕ) (out : List ℕ) where
   -- ---- the definitions in each of the two cases

@@ -3,7 +3,7 @@ ghost use mathlib.Core.Path.{_≡_};
 ghost use Prim.Native.Nat.{_+_, _≤_};
 ghost use lib.ListN.{length};
 ghost use lib.Seq.{sets};
-ghost use Rattle.placing.specs.Placing.{wrote, written};
+ghost use Rattle.placing.specs.Placing.{Writes};
 
 // What a writer answers: the bytes that it wrote, or the number that refuses.
 pub enum Wrote {
@@ -24,7 +24,7 @@ fn copy_in(text: &[u8], out: &mut [u8], at: usize)
 
 // The place is tested first: at + n can wrap.
 pub fn put_bytes(text: &[u8], out: &mut [u8], at: usize) -> Wrote
-    ensures { λ r. ⌜ (r ≡ wrote (now (text .entry)) at (now (out .entry))) × (now (out .exit) ≡ written (now (text .entry)) at (now (out .entry))) ⌝ }
+    ensures { λ r. ⌜ Writes (now (text .entry)) at (now (out .entry)) r (now (out .exit)) ⌝ }
 {
     if at > out.len() {
         return Wrote::Refused(27);

@@ -43,6 +43,14 @@ unknown-zero k e = rw e
 pub unknown-over : (k : ℕ) → 7 < k → isKnown (actionOf k) ≡ false
 unknown-over k h = ap isKnown (List·getD-eq-default (Unknown ∷ Start ∷ Send ∷ Request ∷ Deliver ∷ Rest ∷ Tick ∷ Release ∷ []) Unknown h)
 
+-- above 0, a kind is known where it is at most 7
+pub known-test : (k : ℕ) → 1 ≤ k → leb k 7 ≡ isKnown (actionOf k)
+known-test k l = by-test (leb k 7) refl
+  where
+    by-test : (t : Bool) → leb k 7 ≡ t → t ≡ isKnown (actionOf k)
+    by-test true q = sym (known-in k l (leb-true k 7 q))
+    by-test false q = sym (unknown-over k (leb-false k 7 q))
+
 pub known-range : (k : ℕ) → isKnown (actionOf k) ≡ true → (1 ≤ k) × (k ≤ 7)
 known-range zero e = absurd (true-not-false (sym e))
 known-range (suc k) e = (omega arith, by-test (leb (suc k) 7) refl)

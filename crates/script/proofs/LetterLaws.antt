@@ -1,42 +1,42 @@
 -- The line of a step: its letters are few and small, so it is short; how it is put together, and written at a place of a buffer.
 use mathlib.Core.Path.{_≡_, refl, sym, _∙_}
-use mathlib.Core.Bool.{false}
+use mathlib.Core.Bool.{true, false}
 use mathlib.Core.List.{List, [], _∷_}
 use Prim.Native.Nat.{ℕ, _+_, _-_, _≤_, _<_}
 use native.Mathlib.Omega.{arith}
 use lib.ListN.{length, take, getD, set, length-append}
 use lib.Seq.{sets, sets-eq, take-at}
+use Rattle.placing.specs.Placing.{Writes}
 use Rattle.placing.specs.declared.Wrote.{Wrote}
 use Rattle.placing.specs.declared.Wrote.the-variants.{Refused}
 use Rattle.placing.proofs.Stores.{sets-append}
-use Rattle.placing.proofs.WriteLaws.{Writes}
 use Rattle.rules.specs.Steps.{actionOf}
 use Rattle.rules.specs.Letters.{isKnown}
+use Rattle.rules.specs.Guarantee.{Fits16}
 use Rattle.rules.specs.declared.Action.{Action}
 use Rattle.rules.specs.declared.Action.the-variants.{Unknown, Start, Send, Request, Deliver, Rest, Tick, Release}
 use Rattle.rules.specs.declared.StepRecord.{StepRecord}
 use Rattle.script.specs.Words.{words}
 use Rattle.script.specs.Writing.{lettersOf, tabbed, stepLine, stepText, stepWrote, stepWritten}
-use Rattle.script.proofs.KindLaws.{by-kind, known-in}
+use Rattle.script.proofs.KindLaws.{by-kind}
 use Rattle.script.proofs.TabLaws.{Small, tabbed-length}
 
--- the fields of a record are numbers of 16 bits
-abbrev pub Fits16 : StepRecord → Type 0
-Fits16 r = (r .unit ≤ 65535) × (r .other ≤ 65535) × (r .slot ≤ 65535)
-
 -- the rows: a step has at most three letters, and each is small
-letters-rows : (r : StepRecord) (a : Action) → Fits16 r → Small (lettersOf r a) × (length (lettersOf r a) ≤ 3)
-letters-rows r Unknown h = (tt, omega arith)
-letters-rows r Start h = ((h .0, tt), omega arith)
-letters-rows r Send h = ((h .0, (h .1, (h .2, tt))), omega arith)
-letters-rows r Request h = ((h .0, (h .2, tt)), omega arith)
-letters-rows r Deliver h = ((h .2, tt), omega arith)
-letters-rows r Rest h = ((h .0, tt), omega arith)
-letters-rows r Tick h = ((h .0, tt), omega arith)
-letters-rows r Release h = ((h .0, (h .2, tt)), omega arith)
+letters-rows : (r : StepRecord) (a : Action) → r .unit ≤ 65535 → r .other ≤ 65535 → r .slot ≤ 65535 → Small (lettersOf r a) × (length (lettersOf r a) ≤ 3)
+letters-rows r Unknown u v s = (tt, omega arith)
+letters-rows r Start u v s = ((u, tt), omega arith)
+letters-rows r Send u v s = ((u, (v, (s, tt))), omega arith)
+letters-rows r Request u v s = ((u, (s, tt)), omega arith)
+letters-rows r Deliver u v s = ((s, tt), omega arith)
+letters-rows r Rest u v s = ((u, tt), omega arith)
+letters-rows r Tick u v s = ((u, tt), omega arith)
+letters-rows r Release u v s = ((u, (s, tt)), omega arith)
+
+letters-few : (r : StepRecord) (a : Action) → Fits16 r → Small (lettersOf r a) × (length (lettersOf r a) ≤ 3)
+letters-few r a h = letters-rows r a (omega (arith, h .unit)) (omega (arith, h .other)) (omega (arith, h .slot))
 
 pub letters-small : (r : StepRecord) (a : Action) → Fits16 r → Small (lettersOf r a)
-letters-small r a h = letters-rows r a h .0
+letters-small r a h = letters-few r a h .0
 
 word-short : (k : ℕ) → 1 ≤ k → k ≤ 7 → length (getD words k []) ≤ 7
 word-short = by-kind (λ k. length (getD words k []) ≤ 7) (omega arith) (omega arith) (omega arith) (omega arith) (omega arith) (omega arith) (omega arith)
@@ -45,7 +45,7 @@ pub line-short : (r : StepRecord) → 1 ≤ r .kind → r .kind ≤ 7 → Fits16
 unfolding stepLine
 line-short r l u h =
     let ns : List ℕ = lettersOf r (actionOf (r .kind)) in
-    omega (arith, length-append (getD words (r .kind) []) (tabbed ns), word-short (r .kind) l u, tabbed-length ns (letters-small r (actionOf (r .kind)) h), letters-rows r (actionOf (r .kind)) h .1)
+    omega (arith, length-append (getD words (r .kind) []) (tabbed ns), word-short (r .kind) l u, tabbed-length ns (letters-small r (actionOf (r .kind)) h), letters-few r (actionOf (r .kind)) h .1)
 
 -- ---- a step's line put together in a blank buffer: its word, its letters behind it, and byte 10
 module _ (r : StepRecord) (blank : List ℕ) {from : ℕ} {first ns : List ℕ} (n : from ≡ length (getD words (r .kind) [])) (f : first ≡ sets blank 0 (getD words (r .kind) [])) (ls : ns ≡ lettersOf r (actionOf (r .kind))) where
@@ -83,6 +83,6 @@ module _ (r : StepRecord) (at : ℕ) (out : List ℕ) where
   unfolding stepWrote stepWritten
   step-unknown e = (rw e, rw e)
 
-  pub step-known : 1 ≤ r .kind → r .kind ≤ 7 → {w : Wrote} {left : List ℕ} → Writes (stepText r) at out w left → StepWrites w left
+  pub step-known : isKnown (actionOf (r .kind)) ≡ true → {w : Wrote} {left : List ℕ} → Writes (stepText r) at out w left → StepWrites w left
   unfolding stepWrote stepWritten
-  step-known l u h = let e = known-in (r .kind) l u in (rw e (h .0), rw e (h .1))
+  step-known e h = (rw e (h .0), rw e (h .1))

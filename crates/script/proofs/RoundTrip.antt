@@ -1,28 +1,33 @@
 -- A step that is written and read back is the step with its unused fields 0.
-use mathlib.Core.Path.{_≡_, refl, ap, _∙_}
+use mathlib.Core.Path.{_≡_, refl, sym, ap, _∙_}
 use mathlib.Core.Bool.{true, false}
-use mathlib.Core.List.{List, []}
-use Prim.Native.Nat.{ℕ, zero, suc, _≤_}
+use mathlib.Core.List.{List, [], _∷_, _++_, append-assoc}
+use Prim.Native.Nat.{ℕ, zero, suc, _+_, _-_, _≤_}
 use native.Mathlib.Nat.{not-suc-le-zero}
 use native.Mathlib.Omega.{arith}
-use lib.ListN.{length, getD}
+use lib.ListN.{length, take, drop, getD, length-append}
+use lib.Seq.{sets-eq, take-at, drop-at, length-take-le}
 use Rattle.rules.specs.Facts.{Claim, Claims}
 use Rattle.rules.specs.Steps.{actionOf}
-use Rattle.rules.specs.Letters.{usedFields, used}
+use Rattle.rules.specs.Letters.{isKnown, usedFields, used}
+use Rattle.rules.specs.Guarantee.{Fits16}
 use Rattle.rules.specs.declared.Action.{Action}
 use Rattle.rules.specs.declared.Action.the-variants.{Unknown, Start, Send, Request, Deliver, Rest, Tick, Release}
 use Rattle.rules.specs.declared.StepRecord.{StepRecord}
 use Rattle.rules.proofs.FactLaws.{asked, judge-passed}
+use Rattle.placing.specs.Placing.{wrote, written}
+use Rattle.placing.specs.declared.Wrote.the-variants.{Count}
+use Rattle.placing.proofs.WriteLaws.{wrote-count, written-fits}
 use Rattle.fields.specs.Fields.{tab, countOf, fieldOf, fieldCount}
 use Rattle.script.specs.Words.{words, sameBytes, placeOf, wordNumber}
 use Rattle.script.specs.Lines.{arguments, allNumbers, values, letterCount, rightCount, lineChecks, recordBy, readingBy, reading}
-use Rattle.script.specs.Writing.{lettersOf, stepLine}
+use Rattle.script.specs.Writing.{lettersOf, stepLine, stepText, stepWrote, stepWritten}
 use Rattle.script.specs.RoundTrips.{RoundTrip}
 use Rattle.script.specs.declared.Reading.the-variants.{Asks, Refused}
 use Rattle.script.proofs.KindLaws.{by-kind, known-range}
 use Rattle.script.proofs.LineLaws.{asks}
 use Rattle.script.proofs.TabLaws.{Small}
-use Rattle.script.proofs.LetterLaws.{Fits16, letters-small, line-short}
+use Rattle.script.proofs.LetterLaws.{letters-small, line-short}
 use Rattle.script.proofs.JoinLaws.{first-tabbed, count-tabbed, arguments-tabbed, numbers-tabbed, values-tabbed}
 
 -- ---- the rows: each word has its number and no tab, each kind its letters
@@ -101,5 +106,26 @@ module _ (r : StepRecord) (l : 1 ≤ r .kind) (u : r .kind ≤ 7) (h : Fits16 r)
   unfolding reading
   read-back = judge-passed Refused (lineChecks false (stepLine r)) (readingBy (wordNumber (fieldOf 0 (stepLine r))) (values (arguments (stepLine r)))) line-passes ∙ line-says
 
+-- ---- the line as it stands in a buffer
+module _ (r : StepRecord) (e : isKnown (actionOf (r .kind)) ≡ true) (at n : ℕ) (out : List ℕ) where
+  known-wrote : stepWrote r at out ≡ wrote (stepText r) at out
+  unfolding stepWrote
+  known-wrote = rw e
+
+  known-written : stepWritten r at out ≡ written (stepText r) at out
+  unfolding stepWritten
+  known-written = rw e
+
+  line-stands : stepWrote r at out ≡ Count n → take (n - 1) (drop at (stepWritten r at out)) ≡ stepLine r
+  line-stands w =
+      let c = wrote-count (stepText r) at out (sym known-wrote ∙ w) in
+      let behind : List ℕ = drop (at + length (stepText r)) out in
+      let text : drop at (stepWritten r at out) ≡ stepText r ++ behind
+      = ap (drop at) (known-written ∙ written-fits (stepText r) at out (c .1) ∙ sets-eq (stepText r) out at (c .1) ∙ append-assoc (take at out) (stepText r) behind) ∙ drop-at (take at out) (stepText r ++ behind) at (length-take-le at out (omega (arith, c .1))) in
+      ap (take (n - 1)) (text ∙ append-assoc (stepLine r) (10 ∷ []) behind) ∙ take-at (stepLine r) (10 ∷ behind) (n - 1) (omega (arith, c .0, length-append (stepLine r) (10 ∷ [])))
+
 pub round-trip : RoundTrip
-round-trip r e u v s = let k = known-range (r .kind) e in read-back r (k .0) (k .1) (u, v, s)
+round-trip r e h =
+    let k = known-range (r .kind) e in
+    let back = read-back r (k .0) (k .1) h in
+    record { line = back; buffer = λ at n out w. ap (reading false) (line-stands r e at n out w) ∙ back }

@@ -85,3 +85,9 @@ reading first l = judge Refused (lineChecks first l) (readingBy (wordNumber (fie
 -- the parents of a board line
 unfoldable pub parentsOf : List ℕ → List ℕ
 parentsOf l = drop 2 (values (arguments l))
+
+-- the number that refuses a line where a step is due: 25 for a board line, 0 for a step
+abbrev pub refusalBy : Reading → ℕ
+refusalBy (Opens m d n) = 25
+refusalBy (Asks r) = 0
+refusalBy (Refused k) = k

@@ -12,6 +12,7 @@ use Rattle.placing.specs.Placing.{wrote, written}
 use Rattle.placing.specs.declared.Wrote.{Wrote}
 use Rattle.placing.specs.declared.Wrote.the-variants.{Refused}
 use Rattle.decimal.specs.Spelling.{spelled}
+use Rattle.fields.specs.Fields.{tab}
 use Rattle.script.specs.Words.{words}
 
 -- the values of a step's letters, in the order in which they are written
@@ -28,7 +29,7 @@ lettersOf r Release = r .unit ∷ r .slot ∷ []
 -- each number behind a tab
 unfoldable pub tabbed : List ℕ → List ℕ
 tabbed [] = []
-tabbed (n ∷ ns) = 9 ∷ spelled n ++ tabbed ns
+tabbed (n ∷ ns) = tab ∷ spelled n ++ tabbed ns
 
 -- the line without its byte 10, and with it
 unfoldable pub stepLine : StepRecord → List ℕ

@@ -8,13 +8,25 @@ pub use lines::read_line;
 pub use numbers::read_parents;
 use rules::StepRecord;
 pub use writing::write_step;
-
-// What parts the fields of a line.
-const TAB: u8 = 9;
+ghost use mathlib.Core.Path.{_≡_};
+ghost use Rattle.script.specs.Lines.{refusalBy};
 
 // What a line of a script says: a board line with M, d and the number of its parents, a step, or the number that refuses the line.
 pub enum Reading {
     Opens(u16, u16, u16),
     Asks(StepRecord),
     Refused(u16),
+}
+
+impl Reading {
+    // The number that refuses the line where a step is due, and 0 for a step.
+    pub fn refusal(self) -> u16
+        ensures { λ k. ⌜ k ≡ refusalBy self ⌝ }
+    {
+        match self {
+            Reading::Opens(_, _, _) => 25,
+            Reading::Asks(_) => 0,
+            Reading::Refused(k) => k,
+        }
+    }
 }

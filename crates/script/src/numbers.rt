@@ -1,6 +1,6 @@
 // The number fields of a line: each is handed to the number reader as the part of the line where it stands.
-use crate::TAB;
 use decimal::Number;
+use fields::TAB;
 ghost use mathlib.Core.Path.{_≡_};
 ghost use Prim.Native.Nat.{_+_, _≤_};
 ghost use lib.ListN.{length, drop};

@@ -1,16 +1,14 @@
 // Writing a step as a line of a script.
-use crate::TAB;
 use crate::words::put_word;
 use placing::Wrote;
 use rules::StepRecord;
 ghost use mathlib.Core.Path.{_≡_};
-ghost use mathlib.Core.List.{_∷_};
-ghost use Prim.Native.Nat.{suc, _+_, _≤_};
+ghost use Prim.Native.Nat.{_+_, _≤_};
 ghost use lib.ListN.{length, take};
 ghost use lib.Seq.{sets};
 ghost use Rattle.rules.specs.Steps.{actionOf};
-ghost use Rattle.placing.specs.Placing.{wrote, written};
-ghost use Rattle.decimal.specs.Spelling.{spelled};
+ghost use Rattle.rules.specs.Letters.{isKnown};
+ghost use Rattle.placing.specs.Placing.{Writes};
 ghost use Rattle.script.specs.Writing.{lettersOf, tabbed, stepText, stepWrote, stepWritten};
 
 // The values of a step's letters in their order: the first `count` of the list.
@@ -44,15 +42,10 @@ fn letters_of(r: StepRecord) -> Letters
     }
 }
 
-// A tab and a number; the answer is the place behind them.
-fn put_tabbed_number(n: u16, out: &mut [u8], at: usize) -> usize
-    requires { ⌜ at + suc (length (spelled n)) ≤ length (now out) ⌝ }
-    ensures { λ e. ⌜ (e ≡ at + suc (length (spelled n))) × (now (out .exit) ≡ sets (now (out .entry)) at (9 ∷ spelled n)) ⌝ }
+fn wide(n: u16) -> u64
+    ensures { λ r. ⌜ r ≡ n ⌝ }
 {
-    out[at] = TAB;
-    let to = at + 1;
-    decimal::put_number(n as u64, out, to);
-    to + decimal::digit_count(n as u64)
+    n as u64
 }
 
 // Each number behind a tab; the answer is the place behind them all.
@@ -63,7 +56,9 @@ fn put_tabbed(ns: &[u16], out: &mut [u8], at: usize) -> usize
     let mut to = at;
     let mut i = 0;
     while i < ns.len() {
-        to = put_tabbed_number(ns[i], out, to);
+        let n = wide(ns[i]);
+        decimal::put_tabbed_number(n, out, to);
+        to = to + 1 + decimal::digit_count(n);
         i += 1;
     }
     to
@@ -72,7 +67,7 @@ fn put_tabbed(ns: &[u16], out: &mut [u8], at: usize) -> usize
 // The line at the start of a buffer. It is put together apart, so that its whole length is known before the buffer changes.
 fn step_line(r: StepRecord, out: &mut [u8]) -> Wrote
     requires { ⌜ (1 ≤ r .kind) × (r .kind ≤ 7) ⌝ }
-    ensures { λ w. ⌜ (w ≡ wrote (stepText r) 0 (now (out .entry))) × (now (out .exit) ≡ written (stepText r) 0 (now (out .entry))) ⌝ }
+    ensures { λ w. ⌜ Writes (stepText r) 0 (now (out .entry)) w (now (out .exit)) ⌝ }
 {
     let mut text = [0u8; 32];
     let from = put_word(r.kind, &mut text);
@@ -85,14 +80,21 @@ fn step_line(r: StepRecord, out: &mut [u8]) -> Wrote
     placing::put_bytes(&text[0..n], out, 0)
 }
 
+fn is_kind(kind: u16) -> bool
+    ensures { λ t. ⌜ t ≡ isKnown (actionOf kind) ⌝ }
+{
+    if kind < 1 {
+        return false;
+    }
+    kind <= 7
+}
+
 // The kind is tested before the place.
 pub fn write_step(r: StepRecord, out: &mut [u8], at: usize) -> Wrote
     ensures { λ w. ⌜ (w ≡ stepWrote r at (now (out .entry))) × (now (out .exit) ≡ stepWritten r at (now (out .entry))) ⌝ }
 {
-    if r.kind < 1 {
-        return Wrote::Refused(16);
-    }
-    if r.kind > 7 {
+    let known = is_kind(r.kind);
+    if !known {
         return Wrote::Refused(16);
     }
     if at > out.len() {

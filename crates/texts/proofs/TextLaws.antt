@@ -1,7 +1,7 @@
 -- Texts stored one behind the other, and how long a line is.
 use mathlib.Core.Path.{_≡_, ap, _∙_}
 use mathlib.Core.List.{List, [], _∷_, _++_, append-assoc}
-use Prim.Native.Nat.{ℕ, suc, _+_, _≤_}
+use Prim.Native.Nat.{ℕ, _+_, _≤_}
 use native.Mathlib.Omega.{arith}
 use lib.ListN.{length, length-append}
 use lib.Seq.{sets, length-sets}
@@ -10,6 +10,7 @@ use Rattle.placing.proofs.Stores.{sets-append}
 use Rattle.placing.proofs.WriteLaws.{written-fits}
 use Rattle.decimal.specs.Spelling.{spelled, digitCount}
 use Rattle.decimal.proofs.SpellLaws.{spelled-length}
+use Rattle.fields.specs.Fields.{tab}
 use Rattle.texts.specs.Texts.{lineWith}
 
 -- the text b stored behind a stored text a
@@ -29,17 +30,19 @@ line-length n k debt word =
     simp (length-append, spelled-length) (omega arith)
 
 -- the four parts of a line stored one behind the other
-pub line-stored : (n k debt : ℕ) (word out : List ℕ) (second third : ℕ) {one two three four : List ℕ} → length (lineWith n k debt word) ≤ length out
-    → second ≡ digitCount n + suc (digitCount k) → third ≡ second + suc (digitCount debt)
-    → one ≡ written (spelled n) 0 out → two ≡ sets one (digitCount n) (9 ∷ spelled k) → three ≡ sets two second (9 ∷ spelled debt) → four ≡ sets three third (9 ∷ word ++ 10 ∷ [])
+pub line-stored : (n k debt : ℕ) (word out : List ℕ) (first second third : ℕ) {one two three four : List ℕ} → length (lineWith n k debt word) ≤ length out
+    → first ≡ digitCount n → second ≡ first + 1 + digitCount k → third ≡ second + 1 + digitCount debt
+    → one ≡ written (spelled n) 0 out → two ≡ written (tab ∷ spelled k) first one → three ≡ written (tab ∷ spelled debt) second two → four ≡ sets three third (tab ∷ word ++ 10 ∷ [])
     → four ≡ sets out 0 (lineWith n k debt word)
 unfolding lineWith
-line-stored n k debt word out second third h p q a b c d =
+line-stored n k debt word out first second third h o p q a b c d =
     let l = spelled-length n in
     let m = spelled-length k in
-    let first : List ℕ = spelled n ++ (9 ∷ spelled k) in
-    let len : length first ≡ second = omega (arith, length-append (spelled n) (9 ∷ spelled k)) in
-    stored-then (first ++ (9 ∷ spelled debt)) (9 ∷ word ++ 10 ∷ []) 0 third out (omega (arith, length-append first (9 ∷ spelled debt), spelled-length debt))
-    (stored-then first (9 ∷ spelled debt) 0 second out (omega arith)
-    (stored-then (spelled n) (9 ∷ spelled k) 0 (digitCount n) out (omega arith) (a ∙ written-fits (spelled n) 0 out (omega (arith, h, line-length n k debt word))) b) c) d
-    ∙ ap (λ (t : List ℕ). sets out 0 t) (append-assoc first (9 ∷ spelled debt) (9 ∷ word ++ 10 ∷ []) ∙ append-assoc (spelled n) (9 ∷ spelled k) _)
+    let r = spelled-length debt in
+    let all = line-length n k debt word in
+    let two : List ℕ = spelled n ++ (tab ∷ spelled k) in
+    let len : length two ≡ second = omega (arith, length-append (spelled n) (tab ∷ spelled k)) in
+    stored-then (two ++ (tab ∷ spelled debt)) (tab ∷ word ++ 10 ∷ []) 0 third out (omega (arith, length-append two (tab ∷ spelled debt)))
+    (written-then-fits two (tab ∷ spelled debt) 0 second out (omega arith) (omega (arith, h, all))
+    (written-then-fits (spelled n) (tab ∷ spelled k) 0 first out (omega arith) (omega (arith, h, all)) (a ∙ written-fits (spelled n) 0 out (omega (arith, h, all))) b) c) d
+    ∙ ap (λ (t : List ℕ). sets out 0 t) (append-assoc two (tab ∷ spelled debt) (tab ∷ word ++ 10 ∷ []) ∙ append-assoc (spelled n) (tab ∷ spelled k) _)

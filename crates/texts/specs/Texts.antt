@@ -6,10 +6,11 @@ use Rattle.rules.specs.declared.Board.{Board}
 use Rattle.rules.specs.declared.Verdict.{Verdict}
 use Rattle.rules.specs.declared.Verdict.the-variants.{Working, Finished, Refused}
 use Rattle.decimal.specs.Spelling.{spelled}
+use Rattle.fields.specs.Fields.{tab}
 
 -- "step", "answer", "debt", "state", parted by tabs
 abbrev pub heading : List ℕ
-heading = 115 ∷ 116 ∷ 101 ∷ 112 ∷ 9 ∷ 97 ∷ 110 ∷ 115 ∷ 119 ∷ 101 ∷ 114 ∷ 9 ∷ 100 ∷ 101 ∷ 98 ∷ 116 ∷ 9 ∷ 115 ∷ 116 ∷ 97 ∷ 116 ∷ 101 ∷ 10 ∷ []
+heading = 115 ∷ 116 ∷ 101 ∷ 112 ∷ tab ∷ 97 ∷ 110 ∷ 115 ∷ 119 ∷ 101 ∷ 114 ∷ tab ∷ 100 ∷ 101 ∷ 98 ∷ 116 ∷ tab ∷ 115 ∷ 116 ∷ 97 ∷ 116 ∷ 101 ∷ 10 ∷ []
 
 -- "finished", "working", "refused"
 abbrev pub finishedWord : List ℕ
@@ -28,7 +29,7 @@ stateWord (Refused k) = refusedWord
 
 -- script line, answer, debt and a word, parted by tabs
 unfoldable pub lineWith : ℕ → ℕ → ℕ → List ℕ → List ℕ
-lineWith n k debt word = spelled n ++ ((9 ∷ spelled k) ++ ((9 ∷ spelled debt) ++ (9 ∷ word ++ 10 ∷ [])))
+lineWith n k debt word = spelled n ++ ((tab ∷ spelled k) ++ ((tab ∷ spelled debt) ++ (tab ∷ word ++ 10 ∷ [])))
 
 abbrev pub lineText : ℕ → ℕ → ℕ → Verdict → List ℕ
 lineText n k debt v = lineWith n k debt (stateWord v)

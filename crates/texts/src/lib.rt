@@ -1,34 +1,25 @@
 // The texts of a listing, each written whole or refused by 27 with the buffer as it was.
 use decimal::digit_count;
 use decimal::put_number;
+use decimal::put_tabbed_number;
 use placing::Wrote;
 use placing::put_bytes;
 use rules::Verdict;
 ghost use mathlib.Core.Path.{_≡_};
 ghost use mathlib.Core.List.{[], _∷_, _++_};
-ghost use Prim.Native.Nat.{suc, _+_, _≤_};
+ghost use Prim.Native.Nat.{_+_, _≤_};
 ghost use lib.ListN.{length};
 ghost use lib.Seq.{sets};
-ghost use Rattle.placing.proofs.WriteLaws.{Writes};
-ghost use Rattle.decimal.specs.Spelling.{spelled, digitCount};
+ghost use Rattle.placing.specs.Placing.{Writes};
+ghost use Rattle.fields.specs.Fields.{tab};
 ghost use Rattle.texts.specs.Texts.{heading, lineWith, lineText};
 
 const HEADING: [u8; 23] = *b"step\tanswer\tdebt\tstate\n";
 
-// A number behind a tab; the place behind it.
-fn put_tabbed(n: u64, out: &mut [u8], at: usize) -> usize
-    requires { ⌜ at + suc (digitCount n) ≤ length (now out) ⌝ }
-    ensures { λ r. ⌜ (r ≡ at + suc (digitCount n)) × (now (out .exit) ≡ sets (now (out .entry)) at (9 ∷ spelled n)) ⌝ }
-{
-    put_bytes(b"\t", out, at);
-    put_number(n, out, at + 1);
-    at + 1 + digit_count(n)
-}
-
 // The word behind a tab, and the line's end.
 fn put_word(word: &[u8], out: &mut [u8], at: usize)
     requires { ⌜ at + (length (now word) + 2) ≤ length (now out) ⌝ }
-    ensures { λ _. ⌜ now (out .exit) ≡ sets (now (out .entry)) at (9 ∷ now (word .entry) ++ 10 ∷ []) ⌝ }
+    ensures { λ _. ⌜ now (out .exit) ≡ sets (now (out .entry)) at (tab ∷ now (word .entry) ++ 10 ∷ []) ⌝ }
 {
     put_bytes(b"\t", out, at);
     put_bytes(word, out, at + 1);
@@ -41,13 +32,15 @@ fn line_in(number: u64, answer: u64, debt: u64, word: &[u8], out: &mut [u8]) -> 
     ensures { λ r. ⌜ Writes (lineWith number answer debt (now (word .entry))) 0 (now (out .entry)) r (now (out .exit)) ⌝ }
 {
     let first = digit_count(number);
-    let n = first + digit_count(answer) + digit_count(debt) + word.len() + 4;
+    let second = first + 1 + digit_count(answer);
+    let third = second + 1 + digit_count(debt);
+    let n = third + word.len() + 2;
     if out.len() < n {
         return Wrote::Refused(27);
     }
     put_number(number, out, 0);
-    let second = put_tabbed(answer, out, first);
-    let third = put_tabbed(debt, out, second);
+    put_tabbed_number(answer, out, first);
+    put_tabbed_number(debt, out, second);
     put_word(word, out, third);
     Wrote::Count(n)
 }

@@ -6,6 +6,7 @@ use native.Mathlib.Omega.{arith}
 use borrow.Author.Needs.{needs}
 use lib.ListN.{length}
 use Rattle.placing.proofs.WriteLaws.{written-fits}
+use Rattle.fields.specs.Fields.{tab}
 use Rattle.texts.proofs.TextLaws.{written-then-fits}
 use Rattle.texts.proofs.put_word.Statement.{statement}
 use Rattle.texts.proofs.put_word.Tie as tie
@@ -47,8 +48,8 @@ returns c =
     let at = start .args .at in
     let out = start .args .out .now in
     let fits = start .pre in
-    written-then-fits (9 ∷ word) (10 ∷ []) at (at + 1 + length word) out (omega arith) (omega (arith, fits))
-    (written-then-fits (9 ∷ []) word at (at + 1) out refl (omega (arith, fits)) (tabbed .put-bytes .ensures .1 ∙ written-fits (9 ∷ []) at out (omega (arith, fits))) (named .put-bytes2 .ensures .1))
+    written-then-fits (tab ∷ word) (10 ∷ []) at (at + 1 + length word) out (omega arith) (omega (arith, fits))
+    (written-then-fits (tab ∷ []) word at (at + 1) out refl (omega (arith, fits)) (tabbed .put-bytes .ensures .1 ∙ written-fits (tab ∷ []) at out (omega (arith, fits))) (named .put-bytes2 .ensures .1))
     (ended .put-bytes3 .ensures .1)
 
 pub put-word-spec : {M : Type 1} → statement M

@@ -1,9 +1,9 @@
 -- `put_tabbed` meets its contract. The loop's invariant: writing the numbers that are left from here gives what writing all of them gives.
-use mathlib.Core.Path.{_≡_, _∙_}
+use mathlib.Core.Path.{_≡_, refl, _∙_}
 use Prim.Native.Nat.{_+_, _-_, _≤_}
 use native.Mathlib.Omega.{arith}
 use borrow.Author.Needs.{needs}
-use lib.ListN.{length, drop}
+use lib.ListN.{length, drop, getD}
 use lib.Seq.{sets}
 use Rattle.script.specs.Writing.{tabbed}
 use Rattle.script.proofs.TabLaws.{tabbed-place, tabbed-sets, tabbed-end}
@@ -19,17 +19,27 @@ abbrev μ-loop : tie.MeasureT-loop
 loop-holds : tie.Need-loop-holds Inv-loop μ-loop
 loop-holds c = search needs
 
-put-tabbed-number-requires : tie.Need-put-tabbed-number-requires Inv-loop μ-loop
-put-tabbed-number-requires c κs =
-    let at = c .before .before .before in
-    omega (arith, tabbed-place (at .before .before .before .args .ns .now) (at .loop .i) (omega arith) (at .loop .to))
+-- the number that a turn writes
+wide : (c : tie.After-digit-count Inv-loop μ-loop) → c .before .before .before .before .before .wide .result ≡ getD (c .before .before .before .before .before .before .before .before .before .before .before .args .ns .now) (c .before .before .before .before .before .before .before .before .loop .i) 0
+wide c = c .before .before .before .before .before .wide .ensures
+
+add-to : tie.Need-add-to Inv-loop μ-loop
+add-to c =
+    let at = c .before .before .before .before .before .before .before in
+    omega (arith, tabbed-place (at .before .before .before .args .ns .now) (at .loop .i) (omega arith) refl refl (at .loop .to))
+
+add-to-2 : tie.Need-add-to-2 Inv-loop μ-loop
+add-to-2 c =
+    let at = c .before .before .before .before .before .before .before .before in
+    omega (arith, tabbed-place (at .before .before .before .args .ns .now) (at .loop .i) (omega arith) (wide c) (c .digit-count .ensures) (at .loop .to))
 
 loop-again : tie.Need-loop-again Inv-loop μ-loop
 loop-again c =
-    let at = c .before .before .before .before .before .before in
+    let at = c .before .before .before .before .before .before .before .before in
     let ns = at .before .before .before .args .ns .now in
-    let put = c .before .before .put-tabbed-number .ensures in
-    (omega arith, omega (arith, c .before .before .put-tabbed-number .kept .1 .0), omega (arith, put .0, tabbed-place ns (at .loop .i) (omega arith) (at .loop .to)), rw (put .1, put .0) (tabbed-sets ns (at .loop .i) (omega arith) (at .loop .out) (at .loop .to) ∙ at .loop .inv .3))
+    let put = c .before .before .before .put-tabbed-number in
+    let count = c .digit-count .ensures in
+    (omega arith, omega (arith, put .kept .1 .0), omega (arith, tabbed-place ns (at .loop .i) (omega arith) (wide c) count (at .loop .to)), tabbed-sets ns (at .loop .i) (omega arith) (wide c) count (at .loop .out) (at .loop .to) (omega arith) (put .ensures .1) ∙ at .loop .inv .3)
 
 same-length : tie.Need-same-length Inv-loop μ-loop
 same-length c = c .before .loop .inv .1
@@ -48,7 +58,11 @@ put-tabbed-spec =
     loop-holds
     (λ c. omega arith)
     (λ c. omega arith)
-    put-tabbed-number-requires
+    (λ c κs. search needs)
+    (λ c κs. search needs)
+    add-to
+    (λ c κs. search needs)
+    add-to-2
     (λ c. omega arith)
     (λ c. omega arith)
     loop-again

@@ -11,7 +11,7 @@ use Rattle.script.proofs.writing.step_line.Statement.{statement}
 use Rattle.script.proofs.writing.step_line.Tie as tie
 
 short : (c : tie.Start) → length (stepLine (c .args .r)) ≤ 25
-short c = line-short (c .args .r) (c .pre .0) (c .pre .1) (omega (arith, c .good), omega (arith, c .good), omega (arith, c .good))
+short c = line-short (c .args .r) (c .pre .0) (c .pre .1) (record { kind = omega (arith, c .good); unit = omega (arith, c .good); other = omega (arith, c .good); slot = omega (arith, c .good) })
 
 part-put-tabbed-end : tie.Need-part-put-tabbed-end
 part-put-tabbed-end c = c .before .before .letters-of .ensures .0

@@ -1,40 +1,47 @@
 -- `write_step` meets its contract: the line writer's promise on the rest of the buffer is one on the whole buffer.
-use mathlib.Core.Path.{refl}
+use mathlib.Core.Path.{_≡_, refl, sym, _∙_}
+use mathlib.Core.Bool.{true}
 use native.Mathlib.Omega.{arith}
 use borrow.Author.Needs.{needs}
+use borrow.Author.Tests.{not-true, not-false}
+use Rattle.rules.specs.Steps.{actionOf}
+use Rattle.rules.specs.Letters.{isKnown}
 use Rattle.placing.proofs.WriteLaws.{refuses, from-rest-start}
 use Rattle.script.specs.Writing.{stepText}
-use Rattle.script.proofs.KindLaws.{unknown-zero, unknown-over}
+use Rattle.script.proofs.KindLaws.{known-range}
 use Rattle.script.proofs.LetterLaws.{step-unknown, step-known}
 use Rattle.script.proofs.writing.write_step.Statement.{statement}
 use Rattle.script.proofs.writing.write_step.Tie as tie
 
 returns : tie.Need-returns
-returns c = step-unknown _ _ _ (unknown-zero (c .before .before .before .args .r .kind) (omega arith))
+returns c = step-unknown _ _ _ (sym (c .before .is-kind .ensures) ∙ not-true _ (c .if1 .taken))
+
+known : (c : tie.Else1) → isKnown (actionOf (c .before .before .before .args .r .kind)) ≡ true
+known c = sym (c .before .is-kind .ensures) ∙ not-false _ (c .if1 .left)
 
 returns-2 : tie.Need-returns-2
-returns-2 c = step-unknown _ _ _ (unknown-over _ (c .if2 .taken))
+returns-2 c =
+    let a = c .before .before .before .before .args in
+    step-known (a .r) (a .at) (a .out .now) (known (c .before)) (refuses (stepText (a .r)) (a .at) (a .out .now) (omega arith) refl refl)
+
+step-line-requires : tie.Need-step-line-requires
+step-line-requires c κs = known-range _ (known (c .before .before))
 
 returns-3 : tie.Need-returns-3
 returns-3 c =
-    let a = c .before .before .before .before .before .before .args in
-    step-known (a .r) (a .at) (a .out .now) (omega arith) (omega arith) (refuses (stepText (a .r)) (a .at) (a .out .now) (omega arith) refl refl)
-
-returns-4 : tie.Need-returns-4
-returns-4 c =
-    let a = c .before .before .before .before .before .before .before .before .before .before .args in
-    step-known (a .r) (a .at) (a .out .now) (omega arith) (omega arith) (from-rest-start (stepText (a .r)) (a .at) (a .out .now) (omega arith) (c .before .before .step-line .ensures))
+    let a = c .before .before .before .before .before .before .before .before .args in
+    step-known (a .r) (a .at) (a .out .now) (known (c .before .before .before .before .before)) (from-rest-start (stepText (a .r)) (a .at) (a .out .now) (omega arith) (c .before .before .step-line .ensures))
 
 pub write-step-spec : {M : Type 1} → statement M
 write-step-spec =
     tie.close
     (tie.spec
+    (λ c κs. search needs)
     returns
     returns-2
-    returns-3
     (λ c. search needs)
     (λ c. search needs)
     (λ c. search needs)
-    (λ c κs. search needs)
+    step-line-requires
     (λ c. search needs)
-    returns-4)
+    returns-3)
