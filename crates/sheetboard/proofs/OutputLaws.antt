@@ -8,9 +8,10 @@ use lib.ListN.{length, take, drop}
 use lib.Seq.{sets, sets-eq, take-at, drop-at, drop-drop}
 use Rattle.rules.specs.Facts.{Check, check, test, judge}
 use Rattle.rules.proofs.JudgeLaws.{judge-map}
-use Rattle.placing.specs.declared.Wrote.the-variants.{Refused}
+use Rattle.placing.specs.declared.Wrote.the-variants.{Count, Refused}
 use Rattle.listing.specs.Scripts.{listing}
-use Rattle.listing.specs.Parts.{beginning, ended, rest, part, partChecks, partOf, partBuffer, callText, callNext, joined, cursorAfter, longestPiece, longestLine}
+use Rattle.listing.specs.Bounds.{longestPiece, longestLine}
+use Rattle.listing.specs.Parts.{beginning, ended, rest, part, partChecks, partOf, partBuffer, callText, callNext, joined, cursorAfter}
 use Rattle.listing.specs.Turns.{bytesOf}
 use Rattle.listing.specs.declared.Cursor.{Cursor}
 use Rattle.listing.specs.declared.Part.{Part}
@@ -21,7 +22,7 @@ use Rattle.listing.proofs.WholeLaws.{Counting, counting-begins, counting-ends, 
 use Rattle.sheetboard.specs.Output.{Hands, Follows}
 
 -- ---- one call
--- a judged text is no longer than its room, and stands at the start of the judged buffer
+-- a judged text is no longer than its room
 judged-room : (cs : List Check) (text : List ℕ) (room : ℕ) → length text ≤ room → length (judge (λ k. []) cs text) ≤ room
 judged-room [] text room l = l
 judged-room (check f k ∷ cs) text room l = by-test (test f) (judged-room cs text room l)
@@ -30,30 +31,25 @@ judged-room (check f k ∷ cs) text room l = by-test (test f) (judged-room cs te
     by-test true h = h
     by-test false h = omega arith
 
-judged-start : (cs : List Check) (text out : List ℕ) → length text ≤ length out → take (length (judge (λ k. []) cs text)) (judge (λ k. out) cs (sets out 0 text)) ≡ judge (λ k. []) cs text
-judged-start [] text out l = rw (sets-eq text out 0 (omega (arith, l))) (take-at text (drop (0 + length text) out) (length text) refl)
-judged-start (check f k ∷ cs) text out l = by-test (test f) (judged-start cs text out l)
-  where
-    by-test : (t : Bool) → take (length (judge (λ j. []) cs text)) (judge (λ j. out) cs (sets out 0 text)) ≡ judge (λ j. []) cs text
-        → take (length (cond t (judge (λ j. []) cs text) [])) (cond t (judge (λ j. out) cs (sets out 0 text)) out) ≡ cond t (judge (λ j. []) cs text) []
-    by-test true h = h
-    by-test false h = refl
-
 module _ (c : Cursor) (s out : List ℕ) where
   call-fits : length (callText c s (length out)) ≤ length out
   call-fits = judged-room (partChecks c s (length out)) (part c s (length out) .text) (length out) (part-room (suc (length s)) c s (length out))
 
   call-starts : take (length (callText c s (length out))) (partBuffer c s out) ≡ callText c s (length out)
   unfolding partBuffer
-  call-starts = judged-start (partChecks c s (length out)) (part c s (length out) .text) out (part-room (suc (length s)) c s (length out))
+  call-starts =
+      let text : List ℕ = callText c s (length out) in
+      rw (sets-eq text out 0 (omega (arith, call-fits))) (take-at text (drop (0 + length text) out) (length text) refl)
 
   call-count : bytesOf (partOf c s out .wrote) ≡ length (callText c s (length out))
   unfolding partOf
-  call-count = judge-map (λ (p : Part). bytesOf (p .wrote)) (λ k. record { wrote = Refused k; cursor = c }) (partChecks c s (length out)) _ ∙ sym (judge-map {A = List ℕ} length (λ k. []) (partChecks c s (length out)) (part c s (length out) .text))
+  call-count =
+      judge-map bytesOf Refused (partChecks c s (length out)) (Count (length (part c s (length out) .text)))
+      ∙ sym (judge-map {A = List ℕ} length (λ k. []) (partChecks c s (length out)) (part c s (length out) .text))
 
   call-cursor : partOf c s out .cursor ≡ callNext c s (length out)
   unfolding partOf
-  call-cursor = judge-map (λ (p : Part). p .cursor) (λ k. record { wrote = Refused k; cursor = c }) (partChecks c s (length out)) _
+  call-cursor = refl
 
   module _ {p : Part} {left : List ℕ} (e : p ≡ partOf c s out) (b : left ≡ partBuffer c s out) {count : ℕ} (n : count ≡ bytesOf (p .wrote)) where
     counts : count ≡ length (callText c s (length out))
