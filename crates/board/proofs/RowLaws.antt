@@ -1,19 +1,23 @@
--- Rows of facts: of a slot by its kind, of a parent by its unit.
-use mathlib.Core.Path.{_≡_, sym, ap, subst, _∙_}
-use mathlib.Core.Bool.{Bool, true, false, _&&_, and-true}
+-- Rows of facts: of a slot by its kind, of a unit by its state, of a parent by its unit.
+use mathlib.Core.Path.{_≡_, refl, sym, subst}
+use mathlib.Core.Bool.{Bool, true, false, cond, and-true}
 use mathlib.Core.List.{List, [], _∷_}
 use Prim.Native.Nat.{ℕ, zero, suc, _≤_, _<_, zero-le}
 use native.Mathlib.Omega.{arith}
-use lib.Dec.{ltb, leb}
+use lib.Dec.{ltb}
 use borrow.Author.Tests.{lt-ltb, le-ltb, ne-eqb}
-use Rattle.rules.specs.Facts.{Fact, atMost, equal, Claims, tests}
-use Rattle.rules.specs.Words.{slotAt}
-use Rattle.rules.specs.Sound.{kindRow, slotRow, lowerParent, parentRow}
+use Rattle.rules.specs.Facts.{Fact, atMost, equal, holds, Claims, tests}
+use Rattle.rules.specs.Words.{isIdle, isEmpty, slotAt}
+use Rattle.rules.specs.Sound.{stateRow, unitRow, kindRow, slotRow, lowerParent, parentRow}
+use Rattle.rules.specs.declared.State.{State}
+use Rattle.rules.specs.declared.State.the-variants.{Idle, Active, Waiting}
 use Rattle.rules.specs.declared.Kind.{Kind}
+use Rattle.rules.specs.declared.Kind.the-variants.{Empty, Work, Return, Request, Supply}
+use Rattle.rules.specs.declared.UnitRecord.{UnitRecord}
 use Rattle.rules.specs.declared.Slot.{Slot}
 use Rattle.rules.specs.declared.Board.{Board}
 use Rattle.rules.proofs.SoundLaws.{row-of, row-past}
-use Rattle.board.proofs.TestLaws.{refuted, passed}
+use Rattle.board.proofs.TestLaws.{false-not-true, refuted, passed}
 
 -- in the arm of its kind
 pub kind-arm : (n : ℕ) (ps : List ℕ) (y : Slot) (k : Kind) (r : Bool) → y .kind ≡ k → r ≡ tests (kindRow n ps y k) → r ≡ tests (kindRow n ps y (y .kind))
@@ -23,8 +27,26 @@ kind-arm n ps y k r e = subst (λ (k′ : Kind). r ≡ tests (kindRow n ps y k�
 abbrev pub slotFacts : Board → ℕ → ℕ → List Fact
 slotFacts b left j = atMost (slotAt b j .weight) left ∷ slotRow (b .n) (b .m) (b .parents) j (slotAt b j)
 
-pub slot-tested : (b : Board) (left j : ℕ) {r s : Bool} → r ≡ (leb (slotAt b j .weight) left && s) → s ≡ tests (slotRow (b .n) (b .m) (b .parents) j (slotAt b j)) → r ≡ tests (slotFacts b left j)
-slot-tested b left j p q = p ∙ ap (λ (t : Bool). leb (slotAt b j .weight) left && t) q
+-- ---- an empty slot and an idle unit are asked the same in use and past the entries in use
+pub empty-row : (n m : ℕ) (ps : List ℕ) (j : ℕ) (y : Slot) → isEmpty (y .kind) ≡ true → tests (kindRow n ps y Empty) ≡ tests (slotRow n m ps j y)
+empty-row n m ps j y = by-kind (y .kind) (ltb j m)
+  where
+    by-kind : (k : Kind) (t : Bool) → isEmpty k ≡ true → tests (kindRow n ps y Empty) ≡ tests (cond t (kindRow n ps y k) (holds (isEmpty k) ∷ kindRow n ps y Empty))
+    by-kind Empty true e = refl
+    by-kind Empty false e = refl
+    by-kind Work t e = absurd (false-not-true false refl e)
+    by-kind Return t e = absurd (false-not-true false refl e)
+    by-kind Request t e = absurd (false-not-true false refl e)
+    by-kind Supply t e = absurd (false-not-true false refl e)
+
+pub idle-row : (n delay i : ℕ) (u : UnitRecord) → isIdle (u .state) ≡ true → tests (stateRow delay i u Idle) ≡ tests (unitRow n delay i u)
+idle-row n delay i u = by-state (u .state) (ltb i n)
+  where
+    by-state : (s : State) (t : Bool) → isIdle s ≡ true → tests (stateRow delay i u Idle) ≡ tests (cond t (stateRow delay i u s) (holds (isIdle s) ∷ stateRow delay i u Idle))
+    by-state Idle true e = refl
+    by-state Idle false e = refl
+    by-state Active t e = absurd (false-not-true false refl e)
+    by-state Waiting t e = absurd (false-not-true false refl e)
 
 -- ---- a parent: 0 fits everywhere, any other only a unit in use with a higher number
 zero-lower : (i p : ℕ) → p ≡ 0 → Claims (lowerParent i p)

@@ -1,5 +1,5 @@
 -- The pass over the slots: what holds once j of them are passed, and what a sound board says of the next.
-use mathlib.Core.Path.{_≡_, refl, sym, ap, subst, _∙_}
+use mathlib.Core.Path.{_≡_, refl, sym, ap, _∙_}
 use mathlib.Core.Bool.{Bool, true, false}
 use mathlib.Core.List.{List}
 use Prim.Native.Nat.{ℕ, zero, suc, _+_, _-_, _≤_, _<_}
@@ -10,17 +10,16 @@ use lib.Seq.{drop-cons, getD-set-same, getD-set-other}
 use lib.Dec.{eqb}
 use borrow.Author.Count.{below-none, below-more}
 use borrow.Author.Tests.{eqb-true, eqb-false, ne-eqb}
-use Rattle.rules.specs.Facts.{Claims, sumOf, oneIf}
+use Rattle.rules.specs.Facts.{Claims, Each, sumOf, oneIf}
 use Rattle.rules.specs.Words.{blankSlot, slotAt}
-use Rattle.rules.specs.Sound.{slotRow, pendingIn, pending, slotsWeight, Sound, sound}
+use Rattle.rules.specs.Sound.{slotRow, pendingIn, pending, slotsWeight, Sound}
 use Rattle.rules.specs.declared.Kind.{Kind}
 use Rattle.rules.specs.declared.Kind.the-variants.{Empty, Work, Return, Request, Supply}
 use Rattle.rules.specs.declared.Slot.{Slot}
 use Rattle.rules.specs.declared.Board.{Board}
 use Rattle.rules.proofs.FactLaws.{each-at, each-of}
 use Rattle.board.proofs.RowLaws.{slotFacts}
-use Rattle.board.specs.declared.soundness.SlotCount.{SlotCount}
-use Rattle.board.specs.Passes.{Lengths, pendsFor, SlotsFit, Counted}
+use Rattle.board.specs.Passes.{Lengths, pendsFor}
 
 -- a sum over what is left of a list, one element further
 pub sum-next : {A : Type 0} (f : A → ℕ) (xs : List A) (j : ℕ) (d : A) → j < length xs → sumOf (λ k. f) (drop j xs) ≡ f (getD xs j d) + sumOf (λ k. f) (drop (j + 1) xs)
@@ -67,7 +66,7 @@ none-counted u counts l = record { more = λ i p. rw (ne-eqb u i (λ e. omega ar
 abbrev pub pendsAt : Board → ℕ → ℕ
 pendsAt b j = pendsFor (slotAt b j) (slotAt b j .kind)
 
--- ---- once j slots are passed
+-- ---- once j slots are passed, and once all are
 pub record SlotsSeen (b : Board) (left : ℕ) (counts : List ℕ) (j : ℕ) : Type 0 where
   pub within : j ≤ 256
   pub seen : (k : ℕ) → k < j → Claims (slotRow (b .n) (b .m) (b .parents) k (slotAt b k))
@@ -75,6 +74,12 @@ pub record SlotsSeen (b : Board) (left : ℕ) (counts : List ℕ) (j : ℕ) : Ty
   pub counted : (i : ℕ) → i < 64 → getD counts i 0 + pending (drop j (b .slots)) i ≡ pending (b .slots) i
   pub few : (i : ℕ) → i < 64 → getD counts i 0 ≤ j
   pub long : length counts ≡ 64
+
+-- each fits, what they leave of the debt, and what is pending for each unit
+pub record SlotsFit (b : Board) (left : ℕ) (counts : List ℕ) : Type 0 where
+  pub fit : Each (slotRow (b .n) (b .m) (b .parents)) (b .slots)
+  pub leaves : left + slotsWeight (b .slots) ≡ b .debt
+  pub counted : (i : ℕ) → i < 64 → getD counts i 0 ≡ pending (b .slots) i
 
 pub none-seen : (b : Board) → SlotsSeen b (b .debt) (replicate 64 0) 0
 none-seen b = record {
@@ -119,10 +124,3 @@ module _ (b : Board) (lengths : Lengths b) (left : ℕ) (counts : List ℕ) (j :
     leaves = omega (arith, h .leaves, sum-end (λ y. y .weight) (b .slots) j (omega (arith, lengths .of-slots)));
     counted = λ i p. omega (arith, h .counted i p, sum-end (λ y. pendingIn i y (y .kind)) (b .slots) j (omega (arith, lengths .of-slots)));
   }
-
--- ---- by what the pass answers
-pub refused-count : (b : Board) (t : SlotCount) → Counted b t (t .fits) → t .fits ≡ false → false ≡ sound b
-refused-count b t h e = sym (subst (λ (f : Bool). Counted b t f) e h)
-
-pub passed-count : (b : Board) (t : SlotCount) → Counted b t (t .fits) → t .fits ≡ true → SlotsFit b (t .left) (t .pending)
-passed-count b t h e = subst (λ (f : Bool). Counted b t f) e h

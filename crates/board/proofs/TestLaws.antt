@@ -1,6 +1,6 @@
 -- What a test says where its claim is refuted, and where it holds.
 use mathlib.Core.Path.{_≡_, refl, sym}
-use mathlib.Core.Bool.{Bool, true, false, _&&_}
+use mathlib.Core.Bool.{Bool, true, false}
 use mathlib.Core.List.{List}
 use Prim.Native.Nat.{ℕ}
 use native.Mathlib.Omega.{arith}
@@ -16,10 +16,6 @@ not-true-false false h = refl
 
 pub false-not-true : (t : Bool) → t ≡ false → t ≡ true → ⊥
 false-not-true t p q = let z : _≡_ {A = ℕ} 0 1 = cc in omega arith
-
--- four tests of which three are known by another name
-pub and-same : (a : Bool) {b c d b′ c′ d′ : Bool} → b ≡ b′ → c ≡ c′ → d ≡ d′ → (a && (b && (c && (d && true)))) ≡ (a && (b′ && (c′ && (d′ && true))))
-and-same a p q r = rw (p, q, r)
 
 -- a row of facts
 pub refuted : (fs : List Fact) → (Claims fs → ⊥) → false ≡ tests fs

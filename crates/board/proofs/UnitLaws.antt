@@ -1,31 +1,26 @@
 -- The pass over the units: what holds once i of them are passed, what a sound board says of the next, and the verdict at the end.
 use mathlib.Core.Path.{_≡_, refl, sym, _∙_}
 use mathlib.Core.Bool.{Bool, true, false}
-use mathlib.Core.List.{List, [], _∷_}
+use mathlib.Core.List.{List, _∷_}
 use Prim.Native.Nat.{ℕ, _+_, _-_, _≤_, _<_}
 use native.Mathlib.Omega.{arith}
 use lib.ListN.{getD, drop}
 use lib.Dec.{eqb}
 use borrow.Author.Count.{below-none, below-more}
 use borrow.Author.Tests.{eqb-true, eqb-false}
-use Rattle.rules.specs.Facts.{Fact, atMost, equal, holds, Claims, tests, Each, oneIf}
+use Rattle.rules.specs.Facts.{Fact, atMost, Claims, Each}
 use Rattle.rules.specs.Words.{blankUnit, parentAt, unitAt, ceiling}
 use Rattle.rules.specs.Sound.{sizes, parentRow, unitRow, slotRow, pendingRow, pending, unitsWeight, slotsWeight, Sound, sound}
 use Rattle.rules.specs.declared.Board.{Board}
 use Rattle.rules.proofs.FactLaws.{claims, claims-tested, each-at, each-of}
 use Rattle.rules.proofs.SoundLaws.{sound-tested}
-use Rattle.board.specs.Passes.{SlotsFit}
+use Rattle.board.specs.Passes.{entryRow}
 use Rattle.board.proofs.TestLaws.{unsound}
-use Rattle.board.proofs.SlotLaws.{sum-next, sum-end}
+use Rattle.board.proofs.SlotLaws.{SlotsFit, sum-next, sum-end}
 
--- what the test of unit i asks, where `left` is left of the debt and `count` slots are pending for it
+-- what the tests of unit i ask, where `left` is left of the debt and `count` slots are pending for it
 abbrev pub unitFacts : Board → ℕ → ℕ → ℕ → List Fact
-unitFacts b left count i =
-    atMost (unitAt b i .weight) left
-    ∷ holds (tests (parentRow (b .n) i (parentAt b i)))
-    ∷ equal count (oneIf (unitAt b i .suspended))
-    ∷ holds (tests (unitRow (b .n) (b .delay) i (unitAt b i)))
-    ∷ []
+unitFacts b left count i = atMost (unitAt b i .weight) left ∷ entryRow (b .n) (b .delay) i (unitAt b i) (parentAt b i) count
 
 -- what is asked of unit i and its parent, without the weight
 pub record UnitFits (b : Board) (i : ℕ) : Type 0 where
@@ -60,9 +55,9 @@ module _ (b : Board) (counts : List ℕ) (left i : ℕ) (h : UnitsSeen b counts 
   pub one-more : i < 64 → Claims (unitFacts b left (getD counts i 0) i) → UnitsSeen b counts (left - unitAt b i .weight) (i + 1)
   one-more l fits =
       let here : UnitFits b i = record {
-        parent = claims (parentRow (b .n) i (parentAt b i)) (fits .1 .0);
-        pends = (sym (h .counted i l) ∙ fits .1 .1 .0, tt);
-        own = claims (unitRow (b .n) (b .delay) i (unitAt b i)) (fits .1 .1 .1 .0);
+        own = claims (unitRow (b .n) (b .delay) i (unitAt b i)) (fits .1 .0);
+        parent = claims (parentRow (b .n) i (parentAt b i)) (fits .1 .1 .0);
+        pends = (sym (h .counted i l) ∙ fits .1 .1 .1 .0, tt);
       } in
       record {
         ranges = h .ranges;
@@ -78,10 +73,10 @@ module _ (b : Board) (counts : List ℕ) (left i : ℕ) (h : UnitsSeen b counts 
   next-fits l s = (
     omega (arith, weight-next l, h .leaves, s .s5-s6-debt),
     (
-      claims-tested (parentRow (b .n) i (parentAt b i)) (each-at (parentRow (b .n)) (b .parents) i 0 (omega (arith, h .ranges)) (s .s1-parents)),
+      claims-tested (unitRow (b .n) (b .delay) i (unitAt b i)) (each-at (unitRow (b .n) (b .delay)) (b .units) i blankUnit (omega (arith, h .ranges)) (s .s2-units)),
       (
-        h .counted i l ∙ each-at (pendingRow b) (b .units) i blankUnit (omega (arith, h .ranges)) (s .s4-pending) .0,
-        (claims-tested (unitRow (b .n) (b .delay) i (unitAt b i)) (each-at (unitRow (b .n) (b .delay)) (b .units) i blankUnit (omega (arith, h .ranges)) (s .s2-units)), tt),
+        claims-tested (parentRow (b .n) i (parentAt b i)) (each-at (parentRow (b .n)) (b .parents) i 0 (omega (arith, h .ranges)) (s .s1-parents)),
+        (h .counted i l ∙ each-at (pendingRow b) (b .units) i blankUnit (omega (arith, h .ranges)) (s .s4-pending) .0, tt),
       ),
     ),
   )

@@ -1,7 +1,10 @@
 // Calls on a whole weight board, by value: is it sound, a fresh one, the depth of a unit, is the sheet complete.
 mod depths;
 mod opening;
+mod rows;
+mod slots;
 mod soundness;
+mod units;
 
 use rules::Board;
 use rules::Verdict;

@@ -2,6 +2,7 @@ pub mod Flags
 pub mod Clamping
 pub mod Changing
 pub mod BatchLaws
+pub mod RunTurns
 pub mod RunLaws
 pub mod Walking
 pub mod Lending

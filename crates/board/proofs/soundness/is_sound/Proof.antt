@@ -1,126 +1,220 @@
--- `is_sound` meets its contract. The loop's invariant: what holds once i units are passed, after all slots.
-use mathlib.Core.Path.{_≡_, refl, sym, ap, _∙_}
-use mathlib.Core.Bool.{Bool, _&&_}
-use mathlib.Core.List.{_∷_}
-use Prim.Native.Nat.{_-_}
+-- `is_sound` meets its contract. The loops' invariants: what holds once j slots are passed; and once i units are passed, after all slots.
+use mathlib.Core.Path.{_≡_, refl, sym, _∙_}
+use mathlib.Core.Logic.{⊎-elim}
+use mathlib.Core.List.{List, _∷_}
+use Prim.Native.Nat.{ℕ, _-_}
 use native.Mathlib.Omega.{arith}
 use lib.ListN.{getD}
-use lib.Dec.{leb}
 use borrow.Author.Needs.{needs}
 use borrow.Author.Tests.{not-true, not-false}
-use Rattle.rules.specs.Facts.{atMost, Claims, tests}
-use Rattle.rules.specs.Words.{unitAt, ceiling}
-use Rattle.rules.specs.Sound.{sizes}
+use Rattle.rules.specs.Facts.{Fact, atMost, Claims, tests}
+use Rattle.rules.specs.Words.{parentAt, unitAt, slotAt, ceiling}
+use Rattle.rules.specs.Sound.{sizes, slotRow, Sound}
 use Rattle.rules.specs.declared.Board.{Board}
 use Rattle.rules.proofs.FactLaws.{claims}
 use Rattle.board.proofs.BoardLaws.{lengths-of}
-use Rattle.board.proofs.TestLaws.{and-same, denied, unsound}
-use Rattle.board.proofs.SlotLaws.{refused-count, passed-count}
-use Rattle.board.proofs.UnitLaws.{unitFacts, UnitsSeen, no-unit-seen, one-more, next-fits, all-seen}
+use Rattle.board.proofs.TestLaws.{denied, unsound}
+use Rattle.board.specs.Passes.{Lengths, entryRow}
+use Rattle.board.proofs.RowLaws.{slotFacts}
+use Rattle.board.proofs.SlotLaws.{SlotsSeen, CountedFor, unit-counted, none-counted, pendsAt, none-seen}
+use Rattle.board.proofs.SlotLaws as slot-laws
+use Rattle.board.proofs.UnitLaws.{UnitsSeen, unitFacts, no-unit-seen}
+use Rattle.board.proofs.UnitLaws as unit-laws
 use Rattle.board.proofs.soundness.is_sound.Statement.{statement}
 use Rattle.board.proofs.soundness.is_sound.Tie as tie
 
 abbrev Inv-loop : tie.InvT-loop
-Inv-loop b t left₀ i₀ left i = UnitsSeen b (t .pending) left i
+Inv-loop b ps left₀ pending₀ j₀ left pending j = SlotsSeen b left pending j
 
 abbrev μ-loop : tie.MeasureT-loop
-μ-loop b t left₀ i₀ left i = 64 - i
+μ-loop b ps left₀ pending₀ j₀ left pending j = 256 - j
 
--- ---- before the loop
-ranges-tested : (c : tie.After-both Inv-loop μ-loop) → c .both .result ≡ tests (atMost (c .before .before .args .t1 .debt) ceiling ∷ sizes (c .before .before .args .t1))
-ranges-tested c =
-    let start = c .before .before in
-    c .both .ensures ∙ ap (λ (t : Bool). leb (start .args .t1 .debt) ceiling && t) (c .before .sizes-fit .ensures (start .args .t1) (lengths-of (start .args .t1) (start .good)) refl refl refl)
+abbrev Inv-loop2 : tie.InvT-loop2
+Inv-loop2 b left₀ pending i₀ left i = UnitsSeen b pending left i
 
-sizes-fit-requires : tie.Need-sizes-fit-requires Inv-loop μ-loop
-sizes-fit-requires c κs = search needs
+abbrev μ-loop2 : tie.MeasureT-loop2
+μ-loop2 b left₀ pending i₀ left i = 64 - i
 
-both-requires : tie.Need-both-requires Inv-loop μ-loop
-both-requires c κs = search needs
+-- from the head of each loop back to the start, to the board and to its lengths
+abbrev start : tie.At-loop Inv-loop μ-loop Inv-loop2 μ-loop2 → tie.Start Inv-loop μ-loop Inv-loop2 μ-loop2
+start h = h .before .before .before .before
 
-returns : tie.Need-returns Inv-loop μ-loop
+abbrev board : tie.At-loop Inv-loop μ-loop Inv-loop2 μ-loop2 → Board
+board h = start h .args .t1
+
+lengths : (h : tie.At-loop Inv-loop μ-loop Inv-loop2 μ-loop2) → Lengths (board h)
+lengths h = lengths-of (board h) (start h .good)
+
+abbrev slots-passed : tie.At-loop2 Inv-loop μ-loop Inv-loop2 μ-loop2 → tie.At-loop Inv-loop μ-loop Inv-loop2 μ-loop2
+slots-passed h = h .before .before
+
+-- ---- before the loops
+ranges-tested : (c : tie.After-ranges-fit Inv-loop μ-loop Inv-loop2 μ-loop2) → c .ranges-fit .result ≡ tests (atMost (c .before .args .t1 .debt) ceiling ∷ sizes (c .before .args .t1))
+ranges-tested c = c .ranges-fit .ensures (c .before .args .t1) (lengths-of (c .before .args .t1) (c .before .good)) refl refl refl refl
+
+ranges-fit-requires : tie.Need-ranges-fit-requires Inv-loop μ-loop Inv-loop2 μ-loop2
+ranges-fit-requires c κs = search needs
+
+returns : tie.Need-returns Inv-loop μ-loop Inv-loop2 μ-loop2
 returns c =
-    let b : Board = c .before .before .before .args .t1 in
+    let b : Board = c .before .before .args .t1 in
     unsound b (λ s. denied (atMost (b .debt) ceiling ∷ sizes b) (sym (ranges-tested (c .before)) ∙ not-true _ (c .if1 .taken)) (s .s5-s6-debt .1 .0, s .s1-sizes))
 
-count-slots-requires : tie.Need-count-slots-requires Inv-loop μ-loop
-count-slots-requires c κs = search needs
+loop-holds : tie.Need-loop-holds Inv-loop μ-loop Inv-loop2 μ-loop2
+loop-holds c = none-seen (c .before .before .before .args .t1)
 
-returns-2 : tie.Need-returns-2 Inv-loop μ-loop
+-- ---- a turn over the slots
+abbrev at-slot : tie.After-slot-fits Inv-loop μ-loop Inv-loop2 μ-loop2 → tie.At-loop Inv-loop μ-loop Inv-loop2 μ-loop2
+at-slot c = c .before .before .before .before
+
+-- what a sound board says of the slot
+slot-asked : (c : tie.After-slot-fits Inv-loop μ-loop Inv-loop2 μ-loop2) → Sound (board (at-slot c)) → Claims (slotFacts (board (at-slot c)) (at-slot c .loop .left) (at-slot c .loop .j))
+slot-asked c = let at = at-slot c in slot-laws.next-fits (board at) (lengths at) (at .loop .left) (at .loop .pending) (at .loop .j) (at .loop .inv) (omega arith)
+
+mul-y : tie.Need-mul-y Inv-loop μ-loop Inv-loop2 μ-loop2
+mul-y c = search needs
+
+element-copy-out-y : tie.Need-element-copy-out-y Inv-loop μ-loop Inv-loop2 μ-loop2
+element-copy-out-y c = search needs
+
+slice-aggregate-slot-fits : tie.Need-slice-aggregate-slot-fits Inv-loop μ-loop Inv-loop2 μ-loop2
+slice-aggregate-slot-fits c = search needs
+
+slot-fits-requires : tie.Need-slot-fits-requires Inv-loop μ-loop Inv-loop2 μ-loop2
+slot-fits-requires c κs = search needs
+
+returns-2 : tie.Need-returns-2 Inv-loop μ-loop Inv-loop2 μ-loop2
 returns-2 c =
-    let t = c .before .count-slots .result in
-    refused-count (c .before .before .before .before .before .args .t1) t (c .before .count-slots .ensures) (not-true (t .fits) (c .if2 .taken))
+    let at = at-slot (c .before) in
+    let b : Board = board at in
+    unsound b (λ s. denied (slotRow (b .n) (b .m) (b .parents) (at .loop .j) (slotAt b (at .loop .j))) (sym (c .before .slot-fits .ensures) ∙ not-true _ (c .if2 .taken)) (slot-asked (c .before) s .1))
 
-loop-holds : tie.Need-loop-holds Inv-loop μ-loop
-loop-holds c =
-    let b : Board = c .before .before .before .before .before .args .t1 in
-    let t = c .before .count-slots .result in
-    no-unit-seen b (t .left) (t .pending) (claims (atMost (b .debt) ceiling ∷ sizes b) (sym (ranges-tested (c .before .before .before)) ∙ not-false _ (c .before .before .if1 .left)))
-    (passed-count b t (c .before .count-slots .ensures) (not-false (t .fits) (c .if2 .left)))
-
--- ---- a turn
-tested : (c : tie.After-all4 Inv-loop μ-loop) → c .all4 .result ≡ tests (unitFacts (c .before .before .before .before .before .before .before .before .before .before .before .before .before .before .args .t1) (c .before .before .before .before .before .before .before .before .loop .left) (getD (c .before .before .before .before .before .before .before .before .before .before .count-slots .result .pending) (c .before .before .before .before .before .before .before .before .loop .i) 0) (c .before .before .before .before .before .before .before .before .loop .i))
-tested c = c .all4 .ensures ∙ and-same (leb (unitAt (c .before .before .before .before .before .before .before .before .before .before .before .before .before .before .args .t1) (c .before .before .before .before .before .before .before .before .loop .i) .weight) (c .before .before .before .before .before .before .before .before .loop .left)) (c .before .before .before .before .parent-fits .ensures) (c .before .before .pending-fits .ensures) (c .before .unit-fits .ensures)
-
-fits : (c : tie.Else3 Inv-loop μ-loop) → Claims (unitFacts (c .before .before .before .before .before .before .before .before .before .before .before .before .before .before .before .args .t1) (c .before .before .before .before .before .before .before .before .before .loop .left) (getD (c .before .before .before .before .before .before .before .before .before .before .before .count-slots .result .pending) (c .before .before .before .before .before .before .before .before .before .loop .i) 0) (c .before .before .before .before .before .before .before .before .before .loop .i))
-fits c =
-    let at = c .before .before .before .before .before .before .before .before .before in
-    claims (unitFacts (at .before .before .before .before .before .before .args .t1) (at .loop .left) (getD (at .before .before .count-slots .result .pending) (at .loop .i) 0) (at .loop .i)) (sym (tested (c .before)) ∙ not-false _ (c .if3 .left))
-
-mul-u : tie.Need-mul-u Inv-loop μ-loop
-mul-u c = omega arith
-
-element-copy-out-u : tie.Need-element-copy-out-u Inv-loop μ-loop
-element-copy-out-u c = omega arith
-
-mul-parent-fits : tie.Need-mul-parent-fits Inv-loop μ-loop
-mul-parent-fits c = omega arith
-
-element-copy-out-parent-fits : tie.Need-element-copy-out-parent-fits Inv-loop μ-loop
-element-copy-out-parent-fits c = omega arith
-
-parent-fits-requires : tie.Need-parent-fits-requires Inv-loop μ-loop
-parent-fits-requires c κs = search needs
-
-mul-pending-fits : tie.Need-mul-pending-fits Inv-loop μ-loop
-mul-pending-fits c = omega arith
-
-element-copy-out-pending-fits : tie.Need-element-copy-out-pending-fits Inv-loop μ-loop
-element-copy-out-pending-fits c = omega arith
-
-pending-fits-requires : tie.Need-pending-fits-requires Inv-loop μ-loop
-pending-fits-requires c κs = search needs
-
-unit-fits-requires : tie.Need-unit-fits-requires Inv-loop μ-loop
-unit-fits-requires c κs = search needs
-
-all4-requires : tie.Need-all4-requires Inv-loop μ-loop
-all4-requires c κs = search needs
-
-returns-3 : tie.Need-returns-3 Inv-loop μ-loop
+returns-3 : tie.Need-returns-3 Inv-loop μ-loop Inv-loop2 μ-loop2
 returns-3 c =
-    let at = c .before .before .before .before .before .before .before .before .before in
-    let b : Board = at .before .before .before .before .before .before .args .t1 in
-    unsound b (λ s. denied (unitFacts b (at .loop .left) (getD (at .before .before .count-slots .result .pending) (at .loop .i) 0) (at .loop .i)) (sym (tested (c .before)) ∙ not-true _ (c .if3 .taken)) (next-fits b _ (at .loop .left) (at .loop .i) (at .loop .inv) (omega arith) s))
+    let d = c .before .before .before in
+    unsound (board (at-slot d)) (λ s. omega (arith, c .if3 .taken, slot-asked d s .0))
 
-sub-left : tie.Need-sub-left Inv-loop μ-loop
-sub-left c = fits c .0
+pends-for-requires : tie.Need-pends-for-requires Inv-loop μ-loop Inv-loop2 μ-loop2
+pends-for-requires c κs = search needs
 
-add-i : tie.Need-add-i Inv-loop μ-loop
-add-i c = omega arith
+cast-u : tie.Need-cast-u Inv-loop μ-loop Inv-loop2 μ-loop2
+cast-u c = search needs
 
-loop-less : tie.Need-loop-less Inv-loop μ-loop
-loop-less c = omega arith
+mul-pending : tie.Need-mul-pending Inv-loop μ-loop Inv-loop2 μ-loop2
+mul-pending c = search needs
 
-loop-again : tie.Need-loop-again Inv-loop μ-loop
+array-read-pending : tie.Need-array-read-pending Inv-loop μ-loop Inv-loop2 μ-loop2
+array-read-pending c = search needs
+
+add-pending : tie.Need-add-pending Inv-loop μ-loop Inv-loop2 μ-loop2
+add-pending c =
+    let at = at-slot (c .before .before .before .before .before .before) in
+    omega (arith, at .loop .inv .few (c .before .pends-for .result) (c .if4 .taken))
+
+array-write-pending : tie.Need-array-write-pending Inv-loop μ-loop Inv-loop2 μ-loop2
+array-write-pending c = search needs
+
+-- the counts after the slot
+counted : (c : tie.Joined4 Inv-loop μ-loop Inv-loop2 μ-loop2) → CountedFor (pendsAt (board (at-slot (c .before .before .before .before .before .before))) (at-slot (c .before .before .before .before .before .before) .loop .j)) (at-slot (c .before .before .before .before .before .before) .loop .pending) (c .if4 .pending)
+counted c =
+    let at = at-slot (c .before .before .before .before .before .before) in
+    let u : ℕ = c .before .pends-for .result in
+    let pends : u ≡ pendsAt (board at) (at .loop .j) = c .before .pends-for .ensures in
+    ⊎-elim (λ w. rw (← pends, w .1) (unit-counted u (at .loop .pending) (omega (arith, at .loop .inv .long, w .0 .taken))))
+    (λ w. rw (← pends, w .1) (none-counted u (at .loop .pending) (w .0 .left)))
+    (c .if4 .came)
+
+add-j : tie.Need-add-j Inv-loop μ-loop Inv-loop2 μ-loop2
+add-j c = search needs
+
+loop-less : tie.Need-loop-less Inv-loop μ-loop Inv-loop2 μ-loop2
+loop-less c = search needs
+
+loop-again : tie.Need-loop-again Inv-loop μ-loop Inv-loop2 μ-loop2
 loop-again c =
-    let at = c .before .before .before .before .before .before .before .before .before in
-    one-more (at .before .before .before .before .before .before .args .t1) _ (at .loop .left) (at .loop .i) (at .loop .inv) (omega arith) (fits c)
+    let d = c .before .before .before in
+    let e = d .before .before in
+    let at = at-slot (e .before) in
+    let b : Board = board at in
+    slot-laws.one-more b (lengths at) (at .loop .left) (at .loop .pending) (at .loop .j) (at .loop .inv) (c .if4 .pending) (counted c) (omega arith)
+    (d .if3 .left, claims (slotRow (b .n) (b .m) (b .parents) (at .loop .j) (slotAt b (at .loop .j))) (sym (e .before .slot-fits .ensures) ∙ not-false _ (e .if2 .left)))
 
-returns-4 : tie.Need-returns-4 Inv-loop μ-loop
-returns-4 c =
+loop2-holds : tie.Need-loop2-holds Inv-loop μ-loop Inv-loop2 μ-loop2
+loop2-holds c =
     let at = c .before in
-    all-seen (at .before .before .before .before .before .before .args .t1) _ (at .loop .left) (at .loop .i) (at .loop .inv) (omega arith)
+    let b : Board = board at in
+    let fits = at .before .before in
+    no-unit-seen b (at .loop .left) (at .loop .pending) (claims (atMost (b .debt) ceiling ∷ sizes b) (sym (ranges-tested (fits .before)) ∙ not-false _ (fits .if1 .left)))
+    (slot-laws.all-seen b (lengths at) (at .loop .left) (at .loop .pending) (at .loop .j) (at .loop .inv) (omega arith))
+
+-- ---- a turn over the units
+abbrev at-unit : tie.After-entry-fits Inv-loop μ-loop Inv-loop2 μ-loop2 → tie.At-loop2 Inv-loop μ-loop Inv-loop2 μ-loop2
+at-unit c = c .before .before .before .before
+
+abbrev board2 : tie.At-loop2 Inv-loop μ-loop Inv-loop2 μ-loop2 → Board
+board2 h = board (slots-passed h)
+
+-- how many slots are pending for the unit
+abbrev count : tie.At-loop2 Inv-loop μ-loop Inv-loop2 μ-loop2 → ℕ
+count h = getD (slots-passed h .loop .pending) (h .loop2 .i) 0
+
+-- what a sound board says of the unit
+unit-asked : (c : tie.After-entry-fits Inv-loop μ-loop Inv-loop2 μ-loop2) → Sound (board2 (at-unit c)) → Claims (unitFacts (board2 (at-unit c)) (at-unit c .loop2 .left) (count (at-unit c)) (at-unit c .loop2 .i))
+unit-asked c = let at = at-unit c in unit-laws.next-fits (board2 at) (slots-passed at .loop .pending) (at .loop2 .left) (at .loop2 .i) (at .loop2 .inv) (omega arith)
+
+abbrev entry : tie.At-loop2 Inv-loop μ-loop Inv-loop2 μ-loop2 → List Fact
+entry h = let b = board2 h in entryRow (b .n) (b .delay) (h .loop2 .i) (unitAt b (h .loop2 .i)) (parentAt b (h .loop2 .i)) (count h)
+
+mul-u : tie.Need-mul-u Inv-loop μ-loop Inv-loop2 μ-loop2
+mul-u c = search needs
+
+element-copy-out-u : tie.Need-element-copy-out-u Inv-loop μ-loop Inv-loop2 μ-loop2
+element-copy-out-u c = search needs
+
+mul-entry-fits : tie.Need-mul-entry-fits Inv-loop μ-loop Inv-loop2 μ-loop2
+mul-entry-fits c = search needs
+
+element-copy-out-entry-fits :
+    tie.Need-element-copy-out-entry-fits Inv-loop μ-loop Inv-loop2 μ-loop2
+element-copy-out-entry-fits c = search needs
+
+mul-entry-fits-2 : tie.Need-mul-entry-fits-2 Inv-loop μ-loop Inv-loop2 μ-loop2
+mul-entry-fits-2 c = search needs
+
+array-read-entry-fits : tie.Need-array-read-entry-fits Inv-loop μ-loop Inv-loop2 μ-loop2
+array-read-entry-fits c = search needs
+
+entry-fits-requires : tie.Need-entry-fits-requires Inv-loop μ-loop Inv-loop2 μ-loop2
+entry-fits-requires c κs = search needs
+
+returns-4 : tie.Need-returns-4 Inv-loop μ-loop Inv-loop2 μ-loop2
+returns-4 c =
+    let at = at-unit (c .before) in
+    unsound (board2 at) (λ s. denied (entry at) (sym (c .before .entry-fits .ensures) ∙ not-true _ (c .if5 .taken)) (unit-asked (c .before) s .1))
+
+returns-5 : tie.Need-returns-5 Inv-loop μ-loop Inv-loop2 μ-loop2
+returns-5 c =
+    let d = c .before .before .before in
+    unsound (board2 (at-unit d)) (λ s. omega (arith, c .if6 .taken, unit-asked d s .0))
+
+add-i : tie.Need-add-i Inv-loop μ-loop Inv-loop2 μ-loop2
+add-i c = search needs
+
+loop2-less : tie.Need-loop2-less Inv-loop μ-loop Inv-loop2 μ-loop2
+loop2-less c = search needs
+
+loop2-again : tie.Need-loop2-again Inv-loop μ-loop Inv-loop2 μ-loop2
+loop2-again c =
+    let d = c .before in
+    let e = d .before .before in
+    let at = at-unit (e .before) in
+    unit-laws.one-more (board2 at) (slots-passed at .loop .pending) (at .loop2 .left) (at .loop2 .i) (at .loop2 .inv) (omega arith)
+    (d .if6 .left, claims (entry at) (sym (e .before .entry-fits .ensures) ∙ not-false _ (e .if5 .left)))
+
+returns-6 : tie.Need-returns-6 Inv-loop μ-loop Inv-loop2 μ-loop2
+returns-6 c =
+    let at = c .before in
+    unit-laws.all-seen (board2 at) (slots-passed at .loop .pending) (at .loop2 .left) (at .loop2 .i) (at .loop2 .inv) (omega arith)
 
 pub is-sound-spec : {M : Type 1} → statement M
 is-sound-spec =
@@ -128,25 +222,37 @@ is-sound-spec =
     (tie.spec
     Inv-loop
     μ-loop
-    sizes-fit-requires
-    both-requires
+    Inv-loop2
+    μ-loop2
+    ranges-fit-requires
     returns
-    count-slots-requires
-    returns-2
     loop-holds
-    mul-u
-    element-copy-out-u
-    mul-parent-fits
-    element-copy-out-parent-fits
-    parent-fits-requires
-    mul-pending-fits
-    element-copy-out-pending-fits
-    pending-fits-requires
-    unit-fits-requires
-    all4-requires
+    mul-y
+    element-copy-out-y
+    slice-aggregate-slot-fits
+    slot-fits-requires
+    returns-2
     returns-3
-    sub-left
-    add-i
+    pends-for-requires
+    cast-u
+    mul-pending
+    array-read-pending
+    add-pending
+    array-write-pending
+    add-j
     loop-less
     loop-again
-    returns-4)
+    loop2-holds
+    mul-u
+    element-copy-out-u
+    mul-entry-fits
+    element-copy-out-entry-fits
+    mul-entry-fits-2
+    array-read-entry-fits
+    entry-fits-requires
+    returns-4
+    returns-5
+    add-i
+    loop2-less
+    loop2-again
+    returns-6)

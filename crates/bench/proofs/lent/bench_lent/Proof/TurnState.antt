@@ -18,7 +18,7 @@ use Rattle.rules.specs.Lists.{answers}
 use Rattle.rules.specs.Runs.{zeros}
 use Rattle.rules.specs.declared.Board.{Board}
 use Rattle.rules.specs.declared.StepRecord.{StepRecord}
-use Rattle.steps.specs.Turns.{noStep}
+use Rattle.steps.proofs.RunTurns.{noStep}
 use Rattle.steps.proofs.BatchLaws.{one-at-most, one-more}
 use Rattle.steps.proofs.PlainData.{board, stepRecord}
 

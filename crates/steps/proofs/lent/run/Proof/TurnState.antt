@@ -20,7 +20,8 @@ use Rattle.rules.specs.declared.StepRecord.{StepRecord}
 use Rattle.rules.specs.declared.Outcome.{Outcome}
 use Rattle.rules.proofs.Outcome as O
 use Rattle.rules.proofs.Outcome.Laws as O′
-use Rattle.steps.specs.Turns.{refusalOf, turnsOf, countedOf, begun, noStep, taken, counts, written}
+use Rattle.steps.specs.Turns.{refusalOf, turnsOf, countedOf}
+use Rattle.steps.proofs.RunTurns.{begun, noStep, taken, counts, written}
 use Rattle.steps.proofs.RunLaws.{taken-sound, counts-le, written-length, allowed}
 use Rattle.steps.proofs.PlainData.{board, stepRecord, outcome}
 

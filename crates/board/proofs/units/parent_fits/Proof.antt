@@ -1,7 +1,7 @@
 -- `parent_fits` meets its contract: by the laws of a parent's row.
 use Rattle.board.proofs.RowLaws.{parent-zero, parent-past, parent-used}
-use Rattle.board.proofs.soundness.parent_fits.Statement.{statement}
-use Rattle.board.proofs.soundness.parent_fits.Tie as tie
+use Rattle.board.proofs.units.parent_fits.Statement.{statement}
+use Rattle.board.proofs.units.parent_fits.Tie as tie
 
 returns : tie.Need-returns
 returns c = parent-zero (c .before .args .n) (c .before .args .i) (c .before .args .p) (c .if1 .taken)

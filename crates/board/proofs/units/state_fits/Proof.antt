@@ -1,7 +1,7 @@
 -- `state_fits` meets its contract: the row of each state is that of the function that its arm calls.
 use borrow.Author.Needs.{needs}
-use Rattle.board.proofs.soundness.state_fits.Statement.{statement}
-use Rattle.board.proofs.soundness.state_fits.Tie as tie
+use Rattle.board.proofs.units.state_fits.Statement.{statement}
+use Rattle.board.proofs.units.state_fits.Tie as tie
 
 enum-told : tie.Need-enum-told
 enum-told c = search needs

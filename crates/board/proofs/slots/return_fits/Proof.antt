@@ -1,7 +1,7 @@
 -- `return_fits` meets its contract: its tests are those of the row, at the parent that was read.
 use borrow.Author.Needs.{needs}
-use Rattle.board.proofs.soundness.return_fits.Statement.{statement}
-use Rattle.board.proofs.soundness.return_fits.Tie as tie
+use Rattle.board.proofs.slots.return_fits.Statement.{statement}
+use Rattle.board.proofs.slots.return_fits.Tie as tie
 
 parent-of-requires : tie.Need-parent-of-requires
 parent-of-requires c κs = search needs

@@ -1,8 +1,8 @@
 -- `all4` meets its contract: by the tests that led to each return.
 use mathlib.Core.Bool.{and-true}
 use borrow.Author.Tests.{not-true, not-false}
-use Rattle.board.proofs.soundness.all4.Statement.{statement}
-use Rattle.board.proofs.soundness.all4.Tie as tie
+use Rattle.board.proofs.rows.all4.Statement.{statement}
+use Rattle.board.proofs.rows.all4.Tie as tie
 
 returns : tie.Need-returns
 returns c = rw (not-true (c .before .args .a) (c .if1 .taken))

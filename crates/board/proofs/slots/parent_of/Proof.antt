@@ -3,8 +3,8 @@ use mathlib.Core.Path.{sym}
 use native.Mathlib.Omega.{arith}
 use lib.ListN.{List·getD-eq-default}
 use borrow.Author.Needs.{needs}
-use Rattle.board.proofs.soundness.parent_of.Statement.{statement}
-use Rattle.board.proofs.soundness.parent_of.Tie as tie
+use Rattle.board.proofs.slots.parent_of.Statement.{statement}
+use Rattle.board.proofs.slots.parent_of.Tie as tie
 
 returns : tie.Need-returns
 returns c = sym (List·getD-eq-default (c .before .args .parents .now) 0 (omega arith))

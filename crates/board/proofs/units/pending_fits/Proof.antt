@@ -1,6 +1,6 @@
 -- `pending_fits` meets its contract: by whether the unit is suspended.
-use Rattle.board.proofs.soundness.pending_fits.Statement.{statement}
-use Rattle.board.proofs.soundness.pending_fits.Tie as tie
+use Rattle.board.proofs.units.pending_fits.Statement.{statement}
+use Rattle.board.proofs.units.pending_fits.Tie as tie
 
 returns : tie.Need-returns
 returns c = rw (c .if1 .taken)

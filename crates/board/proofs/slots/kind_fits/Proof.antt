@@ -2,8 +2,8 @@
 use Rattle.rules.specs.declared.Kind.the-variants.{Empty, Work, Return, Request, Supply}
 use Rattle.board.proofs.RowLaws.{kind-arm}
 use borrow.Author.Needs.{needs}
-use Rattle.board.proofs.soundness.kind_fits.Statement.{statement}
-use Rattle.board.proofs.soundness.kind_fits.Tie as tie
+use Rattle.board.proofs.slots.kind_fits.Statement.{statement}
+use Rattle.board.proofs.slots.kind_fits.Tie as tie
 
 enum-told : tie.Need-enum-told
 enum-told c = search needs
