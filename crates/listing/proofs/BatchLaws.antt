@@ -7,6 +7,7 @@ use native.Mathlib.Omega.{arith}
 use lib.ListN.{length, drop, length-append}
 use lib.Dec.{leb, eqb}
 use borrow.Author.Tests.{le-leb, ne-eqb}
+use Rattle.rules.specs.Finished.{toldFrom}
 use Rattle.rules.specs.Sound.{Sound}
 use Rattle.rules.specs.Steps.{recordRule, effect, applied, soundStep, step}
 use Rattle.rules.specs.Lists.{after, answers}
@@ -17,16 +18,15 @@ use Rattle.rules.proofs.FinishedLaws.{verdict-sound}
 use Rattle.rules.specs.declared.Board.{Board}
 use Rattle.rules.specs.declared.Outcome.{Outcome}
 use Rattle.rules.specs.declared.Verdict.{Verdict}
-use Rattle.rules.specs.declared.Verdict.the-variants.{Working, Finished}
 use Rattle.fields.specs.Fields.{upTo}
-use Rattle.script.specs.Lines.{reading}
+use Rattle.script.specs.Lines.{reading, refusalBy}
 use Rattle.script.specs.declared.Reading.{Reading}
 use Rattle.script.specs.declared.Reading.the-variants.{Opens, Asks, Refused}
 use Rattle.texts.specs.Texts.{lineText, boardText}
 use Rattle.listing.specs.Scripts.{lineOutcome, laterOutcome}
 use Rattle.listing.specs.Bounds.{longestLine}
 use Rattle.listing.specs.Parts.{Piece, behind, nextNumber, laterPiece, piece, before, partWithin}
-use Rattle.listing.specs.Batches.{linesAt, placeAfter, recordOf, refusalOf, recordsOf, refusalsOf}
+use Rattle.listing.specs.Batches.{linesAt, placeAfter, recordOf, recordsOf, refusalsOf}
 use Rattle.listing.proofs.StartLaws.{reading-number}
 use Rattle.listing.proofs.PieceLaws.{laterCursor, outcomeAt}
 use Rattle.listing.proofs.PartLaws.{none}
@@ -92,7 +92,7 @@ line-board b h (Opens m d n) = unknown-keeps b h
 line-board b h (Asks r) = refl
 line-board b h (Refused k) = unknown-keeps b h
 
-line-answer : (b : Board) (x : Reading) → ((k : ℕ) → x ≡ Refused k → 1 ≤ k) → cond (eqb (refusalOf x) 0) (step b (recordOf x) .answer) (refusalOf x) ≡ lineOutcome b x .answer
+line-answer : (b : Board) (x : Reading) → ((k : ℕ) → x ≡ Refused k → 1 ≤ k) → cond (eqb (refusalBy x) 0) (step b (recordOf x) .answer) (refusalBy x) ≡ lineOutcome b x .answer
 line-answer b (Opens m d n) f = refl
 line-answer b (Asks r) f = refl
 line-answer b (Refused k) f = rw (ne-eqb k 0 (λ z. omega (arith, f k refl, z)))
@@ -110,8 +110,8 @@ batch-rows n b [] h = refl
 batch-rows n b (l ∷ ls) h =
     let x : Reading = reading false l in
     let next : Sound (step b (recordOf x) .board) = step-keeps-sound b (recordOf x) h in
-    ap (λ (t : List ℕ). lineText n (cond (eqb (refusalOf x) 0) (step b (recordOf x) .answer) (refusalOf x)) (step b (recordOf x) .board .debt) (cond (eqb (step b (recordOf x) .board .debt) 0) Finished Working) ++ t)
+    ap (λ (t : List ℕ). lineText n (cond (eqb (refusalBy x) 0) (step b (recordOf x) .answer) (refusalBy x)) (step b (recordOf x) .board .debt) (toldFrom (step b (recordOf x) .board .debt)) ++ t)
     (batch-rows (nextNumber n) (step b (recordOf x) .board) ls next)
-    ∙ ap (λ (v : Verdict). lineText n (cond (eqb (refusalOf x) 0) (step b (recordOf x) .answer) (refusalOf x)) (step b (recordOf x) .board .debt) v ++ batchText (nextNumber n) (step b (recordOf x) .board) ls) (sym (verdict-sound (step b (recordOf x) .board) next))
+    ∙ ap (λ (v : Verdict). lineText n (cond (eqb (refusalBy x) 0) (step b (recordOf x) .answer) (refusalBy x)) (step b (recordOf x) .board .debt) v ++ batchText (nextNumber n) (step b (recordOf x) .board) ls) (sym (verdict-sound (step b (recordOf x) .board) next))
     ∙ ap (λ (k : ℕ). boardText n k (step b (recordOf x) .board) ++ batchText (nextNumber n) (step b (recordOf x) .board) ls) (line-answer b x (λ k e. reading-number false l k e .0))
     ∙ ap (λ (c : Board). boardText n (lineOutcome b x .answer) c ++ batchText (nextNumber n) c ls) (line-board b h x)

@@ -13,10 +13,10 @@ use Rattle.rules.specs.Runs.{batchMost}
 use Rattle.rules.specs.declared.StepRecord.{StepRecord}
 use Rattle.fields.specs.Fields.{upTo, endFrom}
 use Rattle.fields.proofs.PartLaws.{past-from, end-at-most}
-use Rattle.script.specs.Lines.{reading}
+use Rattle.script.specs.Lines.{reading, refusalBy}
 use Rattle.script.specs.declared.Reading.{Reading}
 use Rattle.listing.specs.Parts.{behind}
-use Rattle.listing.specs.Batches.{linesAt, placeAfter, recordOf, refusalOf, recordsOf, refusalsOf}
+use Rattle.listing.specs.Batches.{linesAt, placeAfter, recordOf, recordsOf, refusalsOf}
 use Rattle.listing.specs.Turns.{Gathers}
 
 -- the place behind a line that ends at e
@@ -79,7 +79,7 @@ turn-begins s from most steps refusals l p q = record {
 }
 
 module _ {s : List ℕ} {from most : ℕ} {steps : List StepRecord} {refusals : List ℕ} {at i : ℕ} (t : Turn s from most steps refusals at i) where
-  pub turn-goes : i < most → at < length s → {x : Reading} → x ≡ reading false (upTo 10 (drop at s)) → {r : StepRecord} → r ≡ recordOf x → {k : ℕ} → k ≡ refusalOf x → {next : ℕ} → next ≡ behind at s
+  pub turn-goes : i < most → at < length s → {x : Reading} → x ≡ reading false (upTo 10 (drop at s)) → {r : StepRecord} → r ≡ recordOf x → {k : ℕ} → k ≡ refusalBy x → {next : ℕ} → next ≡ behind at s
       → Turn s from most (set steps i r) (set refusals i k) next (i + 1)
   unfolding recordsOf refusalsOf
   turn-goes more inside {x} e {r} f {k} g {next} h = record {
@@ -93,7 +93,7 @@ module _ {s : List ℕ} {from most : ℕ} {steps : List StepRecord} {refusals : 
     refusals-are =
         ap (λ (n : ℕ). take (i + 1) (set refusals i k) ++ refusalsOf (linesAt (most - (i + 1)) n s)) h
         ∙ stored-next refusals i k (refusalsOf (linesAt (most - (i + 1)) (behind at s) s)) _ (omega (arith, t .room, t .few))
-        (ap (λ (y : ℕ). take i refusals ++ (y ∷ refusalsOf (linesAt (most - (i + 1)) (behind at s) s))) (g ∙ ap refusalOf e) ∙ ap (λ (ls : List (List ℕ)). take i refusals ++ refusalsOf ls) (sym (lines-here most i at s more inside)) ∙ t .refusals-are);
+        (ap (λ (y : ℕ). take i refusals ++ (y ∷ refusalsOf (linesAt (most - (i + 1)) (behind at s) s))) (g ∙ ap refusalBy e) ∙ ap (λ (ls : List (List ℕ)). take i refusals ++ refusalsOf ls) (sym (lines-here most i at s more inside)) ∙ t .refusals-are);
     place-is = ap (λ (n : ℕ). placeAfter (most - (i + 1)) n s) h ∙ sym (place-here most i at s more inside) ∙ t .place-is;
   }
 

@@ -9,9 +9,9 @@ use native.Mathlib.Omega.{arith}
 use lib.ListN.{length, getD, take, drop, length-append, length-take, drop-of-length-le}
 use lib.Dec.{eqb}
 use lib.Seq.{sets, length-sets, drop-cons, getD-take}
+use Rattle.rules.specs.Finished.{toldFrom}
 use Rattle.rules.specs.Runs.{batchMost}
 use Rattle.rules.specs.declared.Verdict.{Verdict}
-use Rattle.rules.specs.declared.Verdict.the-variants.{Working, Finished}
 use Rattle.placing.specs.Placing.{wrote, written}
 use Rattle.placing.proofs.Stores.{sets-append}
 use Rattle.placing.proofs.WriteLaws.{wrote-fits, wrote-short, written-fits, written-short, written-length, fits-or-short}
@@ -51,7 +51,7 @@ wrote-inside text to out l =
     fits-or-short text to out (λ h. omega (arith, h, ap bytesOf (wrote-fits text to out h))) (λ h. omega (arith, l, ap bytesOf (wrote-short text to out h)))
 
 -- the line of an entry, by what picks its answer and its word
-pub row-said : (n k j debt : ℕ) {a : ℕ} {v : Verdict} → a ≡ cond (eqb k 0) j k → v ≡ cond (eqb debt 0) Finished Working → lineText n a debt v ≡ rowText n k j debt
+pub row-said : (n k j debt : ℕ) {a : ℕ} {v : Verdict} → a ≡ cond (eqb k 0) j k → v ≡ toldFrom debt → lineText n a debt v ≡ rowText n k j debt
 row-said n k j debt {a} {v} e f = ap (λ (x : ℕ). lineText n x debt v) e ∙ ap (λ (x : Verdict). lineText n (cond (eqb k 0) j k) debt x) f
 
 -- at the head of each turn: what is left from here gives what the whole gives

@@ -7,7 +7,7 @@ use lib.ListN.{length, drop}
 use lib.Dec.{leb}
 use Rattle.rules.specs.declared.StepRecord.{StepRecord}
 use Rattle.fields.specs.Fields.{upTo}
-use Rattle.script.specs.Lines.{reading}
+use Rattle.script.specs.Lines.{reading, refusalBy}
 use Rattle.script.specs.declared.Reading.{Reading}
 use Rattle.script.specs.declared.Reading.the-variants.{Opens, Asks, Refused}
 use Rattle.listing.specs.Parts.{behind}
@@ -27,16 +27,10 @@ recordOf (Opens m d n) = record { kind = 0; unit = 0; other = 0; slot = 0 }
 recordOf (Asks r) = r
 recordOf (Refused k) = record { kind = 0; unit = 0; other = 0; slot = 0 }
 
--- the number that refuses a bad line, 0 for a step
-abbrev pub refusalOf : Reading → ℕ
-refusalOf (Opens m d n) = 25
-refusalOf (Asks r) = 0
-refusalOf (Refused k) = k
-
 unfoldable pub recordsOf : List (List ℕ) → List StepRecord
 recordsOf [] = []
 recordsOf (l ∷ ls) = recordOf (reading false l) ∷ recordsOf ls
 
 unfoldable pub refusalsOf : List (List ℕ) → List ℕ
 refusalsOf [] = []
-refusalsOf (l ∷ ls) = refusalOf (reading false l) ∷ refusalsOf ls
+refusalsOf (l ∷ ls) = refusalBy (reading false l) ∷ refusalsOf ls

@@ -7,8 +7,8 @@ use Prim.Native.Nat.{ℕ, _+_, _-_, _/_, min, max}
 use lib.ListN.{length, take}
 use lib.Dec.{eqb}
 use lib.Seq.{sets}
+use Rattle.rules.specs.Finished.{toldFrom}
 use Rattle.rules.specs.Runs.{batchMost}
-use Rattle.rules.specs.declared.Verdict.the-variants.{Working, Finished}
 use Rattle.placing.specs.Placing.{wrote, written}
 use Rattle.placing.specs.declared.Wrote.{Wrote}
 use Rattle.placing.specs.declared.Wrote.the-variants.{Count, Refused}
@@ -38,7 +38,7 @@ bytesOf (Refused k) = 0
 
 -- the line of a script line with the refusal k, or the answer j to its step, and the debt after it
 abbrev pub rowText : ℕ → ℕ → ℕ → ℕ → List ℕ
-rowText n k j debt = lineText n (cond (eqb k 0) j k) debt (cond (eqb debt 0) Finished Working)
+rowText n k j debt = lineText n (cond (eqb k 0) j k) debt (toldFrom debt)
 
 -- the number of the next line, the place behind the last byte, and the buffer
 pub record Placed : Type 0 where

@@ -7,7 +7,7 @@ use script::read_line;
 ghost use mathlib.Core.Path.{_≡_};
 ghost use Prim.Native.Nat.{suc, _≤_, min};
 ghost use Rattle.rules.specs.Runs.{batchMost};
-ghost use Rattle.listing.specs.Batches.{linesAt, placeAfter, recordOf, refusalOf};
+ghost use Rattle.listing.specs.Batches.{linesAt, placeAfter, recordOf};
 ghost use Rattle.listing.specs.Turns.{Gathers};
 
 // What ends a line of a script.
@@ -43,17 +43,6 @@ fn no_step() -> StepRecord
     }
 }
 
-// The number that refuses a line, 0 for a step.
-fn refusal_of(r: Reading) -> u16
-    ensures { λ k. ⌜ k ≡ refusalOf r ⌝ }
-{
-    match r {
-        Reading::Opens(_, _, _) => 25,
-        Reading::Asks(_) => 0,
-        Reading::Refused(k) => k,
-    }
-}
-
 // The place behind a line that ends at `end`.
 pub(crate) fn behind(end: usize, length: usize) -> usize
     ensures { λ r. ⌜ r ≡ min (suc end) length ⌝ }
@@ -85,7 +74,7 @@ pub(crate) fn gather(script: &[u8], from: usize, most: usize) -> Gathered
         let end = end_from(script, at, NEWLINE);
         let line = read_line(&script[at..end], false);
         steps[i] = record_of(line);
-        refusals[i] = refusal_of(line);
+        refusals[i] = line.refusal();
         at = behind(end, script.len());
         i += 1;
     }

@@ -8,6 +8,7 @@ ghost use mathlib.Core.Bool.{cond};
 ghost use Prim.Native.Nat.{_≤_};
 ghost use lib.Dec.{eqb};
 ghost use lib.ListN.{length, take};
+ghost use Rattle.rules.specs.Finished.{toldFrom};
 ghost use Rattle.rules.specs.Runs.{batchMost};
 ghost use Rattle.rules.specs.declared.Verdict.the-variants.{Working, Finished};
 ghost use Rattle.listing.specs.Parts.{nextNumber};
@@ -50,7 +51,7 @@ fn answer_of(refusal: u16, answer: u16) -> u16
 
 // Finished is told from the debt of a sound board.
 fn state_of(debt: u64) -> Verdict
-    ensures { λ v. ⌜ v ≡ cond (eqb debt 0) Finished Working ⌝ }
+    ensures { λ v. ⌜ v ≡ toldFrom debt ⌝ }
 {
     if debt == 0 {
         return Verdict::Finished;

@@ -5,7 +5,7 @@ use mathlib.Core.List.{List, [], _∷_, _++_, append-nil}
 use Prim.Native.Nat.{ℕ, suc, _+_, _*_, _≤_, _<_}
 use native.Mathlib.Omega.{arith}
 use lib.ListN.{length, take, drop}
-use lib.Seq.{sets, sets-eq, take-at, drop-at, drop-drop}
+use lib.Seq.{sets-eq, take-at, drop-at, drop-drop}
 use Rattle.rules.specs.Facts.{Check, check, test, judge}
 use Rattle.rules.proofs.JudgeLaws.{judge-map}
 use Rattle.placing.specs.declared.Wrote.the-variants.{Count, Refused}

@@ -50,8 +50,8 @@ mul-steps c = search needs
 array-set-from-steps : tie.Need-array-set-from-steps Inv-loop μ-loop
 array-set-from-steps c = search needs
 
-refusal-of-requires : tie.Need-refusal-of-requires Inv-loop μ-loop
-refusal-of-requires c κs = search needs
+refusal-requires : tie.Need-refusal-requires Inv-loop μ-loop
+refusal-requires c κs = search needs
 
 mul-refusals : tie.Need-mul-refusals Inv-loop μ-loop
 mul-refusals c = search needs
@@ -74,7 +74,7 @@ loop-again c =
     let at-loop = found .before .before .before in
     let script = at-loop .before .before .before .args .script .now in
     let at = at-loop .loop .at in
-    turn-goes (at-loop .loop .inv) (omega arith) (omega arith) (c .before .before .before .read-line .ensures ∙ ap (λ (l : List ℕ). reading false l) (rw (found .end-from .ensures) (sym (upTo-from 10 at script (omega arith))))) (c .before .before .record-of .ensures) (c .before .refusal-of .ensures)
+    turn-goes (at-loop .loop .inv) (omega arith) (omega arith) (c .before .before .before .read-line .ensures ∙ ap (λ (l : List ℕ). reading false l) (rw (found .end-from .ensures) (sym (upTo-from 10 at script (omega arith))))) (c .before .before .record-of .ensures) (c .before .refusal .ensures)
     (c .behind .ensures ∙ behind-end at script (omega arith) (found .end-from .ensures))
 
 returns-2 : tie.Need-returns-2 Inv-loop μ-loop
@@ -97,7 +97,7 @@ gather-spec =
     record-of-requires
     mul-steps
     array-set-from-steps
-    refusal-of-requires
+    refusal-requires
     mul-refusals
     array-write-refusals
     behind-requires
