@@ -1,4 +1,5 @@
 -- What a step changes, from the records at its places alone.
+use mathlib.Core.Bool.{Bool, cond}
 use Prim.Native.Nat.{ℕ, min}
 use Rattle.rules.specs.Facts.{judge}
 use Rattle.rules.specs.Steps.{actionOf, slotOf, unitBy, placeChecks, recordRule}
@@ -27,5 +28,9 @@ changeOf (OnBoth unit slot debt) x y _ = record { answer = 0; debt = debt; unit 
 abbrev pub effectOn : ℕ → ℕ → ℕ → ℕ → StepRecord → UnitRecord → ℕ → Slot → Effect
 effectOn n m debt delay r x p y = judge Refused (placeChecks n m r (actionOf (r .kind))) (recordRule debt delay r x p y (actionOf (r .kind)))
 
-abbrev pub changeAt : ℕ → ℕ → ℕ → ℕ → StepRecord → UnitRecord → ℕ → Slot → Change
-changeAt n m debt delay r x p y = changeOf (effectOn n m debt delay r x p y) x y debt
+abbrev pub changeOn : ℕ → ℕ → ℕ → ℕ → StepRecord → UnitRecord → ℕ → Slot → Change
+changeOn n m debt delay r x p y = changeOf (effectOn n m debt delay r x p y) x y debt
+
+-- the same, where it is known whether the board is sound
+abbrev pub changeAt : Bool → ℕ → ℕ → ℕ → ℕ → StepRecord → UnitRecord → ℕ → Slot → Change
+changeAt sound n m debt delay r x p y = cond sound (changeOn n m debt delay r x p y) (changeOf (Refused 30) x y debt)

@@ -67,7 +67,7 @@ pub fn run_batch(mut b: Board, steps: [StepRecord; BATCH], count: usize) -> Batc
         let u = unit_place(r, y.to);
         let x = b.units[u];
         let p = b.parents[u];
-        let c = change_at(b.n, b.m, b.debt, b.delay, r, x, p, y);
+        let c = change_at(true, b.n, b.m, b.debt, b.delay, r, x, p, y);
         answers[i] = c.answer;
         debts[i] = c.debt;
         zeros += accepted(c.answer);

@@ -5,7 +5,7 @@ ghost use lib.ListN.{take};
 ghost use Rattle.rules.specs.Steps.{step};
 ghost use Rattle.steps.specs.Turns.{refusalOf, turnsOf, countedOf, ranOf};
 ghost use Rattle.steps.specs.RunMeets.{RunMeets};
-use crate::sound_step;
+use crate::acted;
 use crate::step;
 use board::is_sound;
 use rules::Board;
@@ -79,7 +79,7 @@ pub fn run(b: &mut Board, steps: &[StepRecord], answers: &mut [u16]) -> Ran
     let mut zeros: usize = 0;
     let mut i: usize = 0;
     while i < n {
-        o = sound_step(o.board, steps[i]);
+        o = acted(o.board, steps[i], true);
         answers[i] = o.answer;
         zeros = counted(zeros, o.answer);
         i += 1;

@@ -1,4 +1,4 @@
-// A step by value, on a board known to be sound and on any board; in `lent` a step and a run on what is lent, in `batch` a run by value.
+// A step by value; in `lent` a step and a run on what is lent, in `batch` a run by value.
 mod batch;
 mod changes;
 mod delivering;
@@ -23,9 +23,8 @@ use rules::Board;
 use rules::Outcome;
 use rules::StepRecord;
 ghost use mathlib.Core.Path.{_≡_};
-ghost use mathlib.Core.Bool.{true};
 ghost use Rattle.rules.specs.Sound.{sound};
-ghost use Rattle.rules.specs.Steps.{actionOf, soundStep, step};
+ghost use Rattle.rules.specs.Steps.{actionOf, step};
 pub use batch::run_batch;
 
 // A step's kind by its number; every number outside 1 to 7 is unknown.
@@ -44,17 +43,18 @@ pub(crate) fn action(kind: u16) -> Action
     }
 }
 
-// A step on a board known to be sound.
-pub(crate) fn sound_step(mut b: Board, r: StepRecord) -> Outcome
-    requires { ⌜ sound b ≡ true ⌝ }
-    ensures { λ o. ⌜ o ≡ soundStep b r ⌝ }
+// A step, where it is known whether the board is sound. What it may change is read, changed and stored on each way alike: one exit, since
+// each further copy of the board costs as much as the step.
+pub(crate) fn acted(mut b: Board, r: StepRecord, tested: bool) -> Outcome
+    requires { ⌜ tested ≡ sound b ⌝ }
+    ensures { λ o. ⌜ o ≡ step b r ⌝ }
 {
     let s = slot_place(r);
     let y = b.slots[s];
     let u = unit_place(r, y.to);
     let x = b.units[u];
     let p = b.parents[u];
-    let c = change_at(b.n, b.m, b.debt, b.delay, r, x, p, y);
+    let c = change_at(tested, b.n, b.m, b.debt, b.delay, r, x, p, y);
     let unit = c.unit;
     let slot = c.slot;
     b.units[u] = unit;
@@ -70,12 +70,5 @@ pub(crate) fn sound_step(mut b: Board, r: StepRecord) -> Outcome
 pub fn step(b: Board, r: StepRecord) -> Outcome
     ensures { λ o. ⌜ o ≡ step b r ⌝ }
 {
-    if is_sound(b) {
-        sound_step(b, r)
-    } else {
-        Outcome {
-            answer: 30,
-            board: b,
-        }
-    }
+    acted(b, r, is_sound(b))
 }

@@ -106,7 +106,7 @@ sure d = at-loop d .loop .inv .is-sound (slot-place d .before .before .loop-test
 change-at-requires : tie.Need-change-at-requires Inv-loop μ-loop
 change-at-requires c κs =
     let d = c .before .before in
-    place-weights (at-loop d .loop .b) (asked d) (sure d) (d .unit-place .result) (slot-place d .slot-place .result) (slot-place d .slot-place .ensures) (d .unit-place .ensures)
+    λ e. place-weights (at-loop d .loop .b) (asked d) (sure d) (d .unit-place .result) (slot-place d .slot-place .result) (slot-place d .slot-place .ensures) (d .unit-place .ensures)
 
 -- the change, stored, is the step
 abbrev unit-place : tie.After-change-at Inv-loop μ-loop → tie.After-unit-place Inv-loop μ-loop

@@ -20,7 +20,7 @@ use ghost.Atoms.{Atoms}
 use contract.Monad.{Fun}
 use contract.Running.{givenOf, tablesOf}
 use types.Kit.{Given, Item, ‵, _⊛_, ⋆, anyQ, atRet, runs, Sq, _$_, _∵_, !, qed, by, move, drop, split, join, fsplit, fsplit3, fjoin, suffices, frame, done}
-use types.Run.{look, store, init, forget, stop, from, lit, of-opd, bin, and-then, no-more, assigns-last, land, first, branches, blocks, skips, jumps, returns, enter, params1, pass1, pass0, exec, Below, again, loops}
+use types.Run.{look, store, init, forget, stop, from, lit, true-lit, of-opd, bin, and-then, no-more, assigns-last, land, first, branches, blocks, skips, jumps, returns, enter, params1, pass1, pass0, exec, Below, again, loops}
 use types.Part.{agg}
 use types.Share.{arr-parts}
 use sound.WpLaws.{FmC, fmOf}
@@ -54,9 +54,9 @@ use Rattle.steps.proofs.lent.run_refusal.Met as run-refusal-thm
 use Rattle.steps.proofs.lent.turns.Symbol as turns-def
 use Rattle.steps.proofs.lent.turns.Symbol.{name as #turns}
 use Rattle.steps.proofs.lent.turns.Met as turns-thm
-use Rattle.steps.proofs.sound_step.Symbol as sound-step-def
-use Rattle.steps.proofs.sound_step.Symbol.{name as #sound-step}
-use Rattle.steps.proofs.sound_step.Met as sound-step-thm
+use Rattle.steps.proofs.acted.Symbol as acted-def
+use Rattle.steps.proofs.acted.Symbol.{name as #acted}
+use Rattle.steps.proofs.acted.Met as acted-thm
 use Rattle.steps.proofs.lent.counted.Symbol as counted-def
 use Rattle.steps.proofs.lent.counted.Symbol.{name as #counted}
 use Rattle.steps.proofs.lent.counted.Met as counted-thm
@@ -69,7 +69,7 @@ use Rattle.steps.proofs.lent.run.Statement as stated
 use Rattle.steps.proofs.lent.run.Code as code
 use Rattle.steps.proofs.lent.run.Code.Mir as mir-of
 use Rattle.steps.proofs.lent.run.Proof.TurnState.{begun-is, Turned, Nearer, nearer-wf, start, long, here, next, Turnable, turnable}
-use Rattle.steps.proofs.lent.run.Proof.Callees.{RunRefusal, Turns, SoundStep, Counted, End, Known, refusal-gives, turns-gives, step-gives, counted-gives, end-gives}
+use Rattle.steps.proofs.lent.run.Proof.Callees.{RunRefusal, Turns, Acted, Counted, End, Known, refusal-gives, turns-gives, step-gives, counted-gives, end-gives}
 mod TurnState
 mod Callees
 
@@ -157,9 +157,9 @@ module _ {M : Type 1} (𝓤 : URA M) (H : Heap 𝓤) (A : Atoms 𝓤) (W : Given
           -- [the step; the other steps; 0 .. 21; the answers]: local k stands at k + 2
           lets ! 17 refl (of-opd ! (behind ! 16 0 refl refl)) (stepRecord .lawful 𝓤 H A W .typed (here s) _ ir .0) $
           returns-at ! stepRecord q′ rs (s .i) noStep sb so (may .in-steps) ir $ aside ! $
-          -- `o = sound_step(o.board, steps[i])`
+          -- `o = acted(o.board, steps[i], true)`
           asks ! fm _ outcome (λ o. o ≡ step (s .o .board) (here s)) (step-gives 𝓤 H A at-mem go W C fm known (s .o .board) (here s) (board-is (s .o) (s .ok)) ir (may .is-sound))
-          (and-then ! (field-at ! 6 refl refl refl) (and-then ! (local-at ! 15 refl) (no-more !))) (λ o e io.
+          (and-then ! (field-at ! 6 refl refl refl) (and-then ! (local-at ! 15 refl) (and-then ! (true-lit !) (no-more !)))) (λ o e io.
           land ! (from ! (stop !)) (store ! 6 refl (outcome .lawful 𝓤 H A W .typed o _ io .0)) $
           -- `answers[i] = o.answer` is stored into the row of answers, now at 22, which goes behind the row of steps
           sets ! 13 refl (bin ! (local-at ! 8 refl) (lit ! tt) (record { fits = may .answer-place })) (tt, record { fits = may .answer-place }) $
@@ -249,7 +249,7 @@ run-spec 𝓤 H 𝓜 𝓖 𝓡 =
     (walk 𝓤 H (𝓖 .A) W (𝓜 .mem) (𝓡 .run) (Means 𝓤 H 𝓜 𝓡 code.env) (record {
       known-refusal = cited 𝓤 H (RunRefusal 𝓤 H (𝓖 .A) (𝓜 .mem) (𝓡 .run)) 𝓜 𝓡 code.env #run-refusal run-refusal-def.routine code.calls-steps·lent·run-refusal (run-refusal-thm.met 𝓤 H 𝓜 𝓖 𝓡);
       known-turns = cited 𝓤 H (Turns 𝓤 H (𝓖 .A) (𝓜 .mem) (𝓡 .run)) 𝓜 𝓡 code.env #turns turns-def.routine code.calls-steps·lent·turns (turns-thm.met 𝓤 H 𝓜 𝓖 𝓡);
-      known-step = cited 𝓤 H (SoundStep 𝓤 H (𝓖 .A) (𝓜 .mem) (𝓡 .run)) 𝓜 𝓡 code.env #sound-step sound-step-def.routine code.calls-steps·sound-step (sound-step-thm.met 𝓤 H 𝓜 𝓖 𝓡);
+      known-step = cited 𝓤 H (Acted 𝓤 H (𝓖 .A) (𝓜 .mem) (𝓡 .run)) 𝓜 𝓡 code.env #acted acted-def.routine code.calls-steps·acted (acted-thm.met 𝓤 H 𝓜 𝓖 𝓡);
       known-counted = cited 𝓤 H (Counted 𝓤 H (𝓖 .A) (𝓜 .mem) (𝓡 .run)) 𝓜 𝓡 code.env #counted counted-def.routine code.calls-steps·lent·counted (counted-thm.met 𝓤 H 𝓜 𝓖 𝓡);
       known-end = cited 𝓤 H (End 𝓤 H (𝓖 .A) (𝓜 .mem) (𝓡 .run)) 𝓜 𝓡 code.env #ran ran-def.routine code.calls-steps·lent·ran (ran-thm.met 𝓤 H 𝓜 𝓖 𝓡);
     })

@@ -1,10 +1,10 @@
--- `sound_step` meets its contract: a change stored at its places is the step.
+-- `acted` meets its contract: a change stored at its places is the step.
+use mathlib.Core.Path.{sym, _∙_}
 use borrow.Author.Needs.{needs}
-use Rattle.rules.specs.Sound.{Sound}
 use Rattle.rules.proofs.SoundLaws.{sound-claims}
-use Rattle.steps.proofs.Changing.{place-weights, stored-step}
-use Rattle.steps.proofs.sound_step.Statement.{statement}
-use Rattle.steps.proofs.sound_step.Tie as tie
+use Rattle.steps.proofs.Changing.{place-weights, stored-tested}
+use Rattle.steps.proofs.acted.Statement.{statement}
+use Rattle.steps.proofs.acted.Tie as tie
 
 slot-place-requires : tie.Need-slot-place-requires
 slot-place-requires c κs = search needs
@@ -33,14 +33,10 @@ element-copy-out-p c = search needs
 abbrev start : tie.After-unit-place → tie.Start
 start d = d .before .before .before
 
--- the board is sound
-sure : (d : tie.After-unit-place) → Sound (start d .args .t1)
-sure d = sound-claims (start d .args .t1) (start d .pre)
-
 change-at-requires : tie.Need-change-at-requires
 change-at-requires c κs =
     let d = c .before .before in
-    place-weights (start d .args .t1) (start d .args .r) (sure d) (d .unit-place .result) (d .before .before .slot-place .result) (d .before .before .slot-place .ensures) (d .unit-place .ensures)
+    λ e. place-weights (start d .args .t1) (start d .args .r) (sound-claims (start d .args .t1) (sym (start d .pre) ∙ e)) (d .unit-place .result) (d .before .before .slot-place .result) (d .before .before .slot-place .ensures) (d .unit-place .ensures)
 
 mul-unit : tie.Need-mul-unit
 mul-unit c = search needs
@@ -57,11 +53,11 @@ element-set-from-slot c = search needs
 returns : tie.Need-returns
 returns c =
     let d = c .before .before .before .before .before in
-    stored-step (start d .args .t1) (start d .args .r) (sure d) (d .unit-place .result) (d .before .before .slot-place .result) (d .before .before .slot-place .ensures) (d .unit-place .ensures)
+    stored-tested (start d .args .tested) (start d .args .t1) (start d .args .r) (start d .pre) (d .unit-place .result) (d .before .before .slot-place .result) (d .before .before .slot-place .ensures) (d .unit-place .ensures)
     (c .before .before .change-at .result) (c .before .before .change-at .ensures)
 
-pub sound-step-spec : {M : Type 1} → statement M
-sound-step-spec =
+pub acted-spec : {M : Type 1} → statement M
+acted-spec =
     tie.close
     (tie.spec
     slot-place-requires

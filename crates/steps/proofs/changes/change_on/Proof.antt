@@ -1,0 +1,50 @@
+-- `change_on` meets its contract: the number that refuses the place is the bracket's head, and the rest is what its callees say.
+use mathlib.Core.Path.{ap, _∙_}
+use borrow.Author.Needs.{needs}
+use Rattle.rules.specs.Facts.{judge}
+use Rattle.rules.specs.Steps.{placeChecks, recordRule}
+use Rattle.rules.specs.declared.Action.{Action}
+use Rattle.rules.specs.declared.Effect.{Effect}
+use Rattle.rules.specs.declared.Effect.the-variants.{Refused}
+use Rattle.steps.specs.Changing.{changeOf}
+use Rattle.steps.proofs.Clamping.{placed-effect}
+use Rattle.steps.proofs.changes.change_on.Statement.{statement}
+use Rattle.steps.proofs.changes.change_on.Tie as tie
+
+action-requires : tie.Need-action-requires
+action-requires c κs = search needs
+
+place-refusal-requires : tie.Need-place-refusal-requires
+place-refusal-requires c κs = search needs
+
+record-rule-requires : tie.Need-record-rule-requires
+record-rule-requires c κs = search needs
+
+unless-refused-requires : tie.Need-unless-refused-requires
+unless-refused-requires c κs = search needs
+
+change-of-requires : tie.Need-change-of-requires
+change-of-requires c κs = search needs
+
+returns : tie.Need-returns
+returns c =
+    let e = c .before .unless-refused in
+    let k = c .before .before .before .place-refusal in
+    let a = c .before .before .before .before .action in
+    let g = c .before .before .before .before .before .args in
+    c .change-of .ensures
+    ∙ ap (λ (f : Effect). changeOf f (g .x) (g .y) (g .debt))
+    (placed-effect (g .n) (g .m) (g .r) (a .result) (k .result) (c .before .before .record-rule .result) (e .result) (k .ensures) (e .ensures)
+    ∙ ap (judge Refused (placeChecks (g .n) (g .m) (g .r) (a .result))) (c .before .before .record-rule .ensures)
+    ∙ ap (λ (b : Action). judge Refused (placeChecks (g .n) (g .m) (g .r) b) (recordRule (g .debt) (g .delay) (g .r) (g .x) (g .p) (g .y) b)) (a .ensures))
+
+pub change-on-spec : {M : Type 1} → statement M
+change-on-spec =
+    tie.close
+    (tie.spec
+    action-requires
+    place-refusal-requires
+    record-rule-requires
+    unless-refused-requires
+    change-of-requires
+    returns)
