@@ -18,16 +18,19 @@ pub struct Case {
 const DELAY: u16 = 1;
 
 impl Case {
-    /// n units in a binary tree, m slots, so many steps.
+    /// n units in a binary tree, m slots, so many accepted steps.
     pub fn new(n: u16, m: u16, length: usize) -> Case {
-        let steps = accepted_steps(n, m, length);
+        Case::of(n, m, accepted_steps(n, m, length))
+    }
+
+    pub fn of(n: u16, m: u16, steps: Vec<Step>) -> Case {
         Case {
             n,
             m,
             d: DELAY,
             records: steps.iter().map(Record::of).collect(),
             flat: steps.iter().flat_map(|step| [step.kind, step.unit, step.other, step.slot]).collect(),
-            answers: vec![0; length],
+            answers: vec![0; steps.len()],
             delays: Vec::new(),
             steps,
         }

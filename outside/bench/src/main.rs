@@ -148,3 +148,44 @@ fn main() -> ExitCode {
         }
     }
 }
+
+#[cfg(test)]
+mod tests {
+    use super::*;
+    use reference::Step;
+
+    /// Steps of any kind on units and slots in use and past the end: most are refused, many are not.
+    fn mixed_steps(n: u16, m: u16, length: usize) -> Vec<Step> {
+        let mut state = 20_261_115u64;
+        let mut below = |most: u16| {
+            state = state.wrapping_mul(6_364_136_223_846_793_005).wrapping_add(1_442_695_040_888_963_407);
+            ((state >> 33) % u64::from(most)) as u16
+        };
+        let record = |_| Step { kind: below(9), unit: below(n + 1), other: below(n + 1), slot: below(m + 1) };
+        (0..length).map(record).collect()
+    }
+
+    /// Each call on each list gives as many accepted steps as the plain steps, and the run the same answers.
+    #[test]
+    fn calls_agree_with_plain_steps() {
+        let sizes = SIZES.into_iter().chain([(0, 1), (2, 0), (64, 257)]);
+        for (n, m) in sizes {
+            for length in [0, 1, 511, 512, 513, 3_000] {
+                for steps in [mixed_steps(n, m, length), Case::new(n.max(1), m.max(1), length).steps] {
+                    let mut case = Case::of(n, m, steps);
+                    let tested = plain::tested(&mut case);
+                    assert_eq!(library::by_value(&mut case), tested);
+                    assert_eq!(library::lent(&mut case), tested);
+                    assert_eq!(library::batches(&mut case), tested);
+                    case.answers.fill(99);
+                    assert_eq!(library::run(&mut case), tested);
+                    let answers = case.answers.clone();
+                    let opened = plain::tested(&mut Case::of(n, m, vec![Step::start(0)])) == 1;
+                    plain::untested(&mut case);
+                    assert!(!opened || answers == case.answers);
+                    assert!(opened || answers.iter().all(|&answer| answer == 99));
+                }
+            }
+        }
+    }
+}
