@@ -15,7 +15,7 @@ use Rattle.rules.specs.declared.StepRecord.{StepRecord}
 use Rattle.rules.specs.declared.Outcome.{Outcome}
 use Rattle.rules.proofs.SoundLaws.{sound-claims, weights-fit}
 use Rattle.steps.specs.declared.changes.Change.{Change}
-use Rattle.steps.specs.Changing.{slotPlace, unitPlace, changeOf, effectOn, changeOn, changeAt}
+use Rattle.steps.specs.Changing.{slotPlace, unitPlace, changeOf, effectOn, changeAt}
 use Rattle.steps.proofs.Clamping.{clamped-step}
 
 -- the answer, and the board with the change stored at the unit u and the slot s
@@ -35,11 +35,11 @@ module _ (b : Board) (r : StepRecord) (h : Sound b) (u s : ℕ) (slot-is : s ≡
   pub place-weights : (unitAt b u .weight + slotAt b s .weight ≤ b .debt) × (b .debt ≤ ceiling)
   place-weights = (weights-fit b h u s (omega arith) (omega arith), h .s5-s6-debt .1 .0)
 
-  pub stored-step : (c : Change) → c ≡ changeOn (b .n) (b .m) (b .debt) (b .delay) r (unitAt b u) (parentAt b u) (slotAt b s) → stored b u s c ≡ soundStep b r
+  pub stored-step : (c : Change) → c ≡ changeAt true (b .n) (b .m) (b .debt) (b .delay) r (unitAt b u) (parentAt b u) (slotAt b s) → stored b u s c ≡ soundStep b r
   unfolding soundStep effect
   stored-step c e =
       ap (stored b u s) e
-      ∙ change-applied b u s (effectOn (b .n) (b .m) (b .debt) (b .delay) r (unitAt b u) (parentAt b u) (slotAt b s))
+      ∙ change-applied b u s (effectOn true (b .n) (b .m) (b .debt) (b .delay) r (unitAt b u) (parentAt b u) (slotAt b s))
       ∙ clamped-step b h r (actionOf (r .kind)) u s slot-is unit-is
 
 -- where the board is not sound, what was read is stored

@@ -1,7 +1,8 @@
 -- What a step changes, from the records at its places alone.
-use mathlib.Core.Bool.{Bool, cond}
+use mathlib.Core.Bool.{Bool}
+use mathlib.Core.List.{_∷_}
 use Prim.Native.Nat.{ℕ, min}
-use Rattle.rules.specs.Facts.{judge}
+use Rattle.rules.specs.Facts.{check, holds, judge}
 use Rattle.rules.specs.Steps.{actionOf, slotOf, unitBy, placeChecks, recordRule}
 use Rattle.rules.specs.declared.Effect.{Effect}
 use Rattle.rules.specs.declared.Effect.the-variants.{Refused, OnUnit, OnSlot, OnBoth}
@@ -24,13 +25,9 @@ changeOf (OnUnit unit debt) x y _ = record { answer = 0; debt = debt; unit = uni
 changeOf (OnSlot slot debt) x y _ = record { answer = 0; debt = debt; unit = x; slot = slot }
 changeOf (OnBoth unit slot debt) x y _ = record { answer = 0; debt = debt; unit = unit; slot = slot }
 
--- the whole bracket of a step, then what its effect leaves; p is the unit's parent
-abbrev pub effectOn : ℕ → ℕ → ℕ → ℕ → StepRecord → UnitRecord → ℕ → Slot → Effect
-effectOn n m debt delay r x p y = judge Refused (placeChecks n m r (actionOf (r .kind))) (recordRule debt delay r x p y (actionOf (r .kind)))
+-- the whole bracket of a step, where it is known whether the board is sound, then what its effect leaves; p is the unit's parent
+abbrev pub effectOn : Bool → ℕ → ℕ → ℕ → ℕ → StepRecord → UnitRecord → ℕ → Slot → Effect
+effectOn sound n m debt delay r x p y = judge Refused (check (holds sound) 30 ∷ placeChecks n m r (actionOf (r .kind))) (recordRule debt delay r x p y (actionOf (r .kind)))
 
-abbrev pub changeOn : ℕ → ℕ → ℕ → ℕ → StepRecord → UnitRecord → ℕ → Slot → Change
-changeOn n m debt delay r x p y = changeOf (effectOn n m debt delay r x p y) x y debt
-
--- the same, where it is known whether the board is sound
 abbrev pub changeAt : Bool → ℕ → ℕ → ℕ → ℕ → StepRecord → UnitRecord → ℕ → Slot → Change
-changeAt sound n m debt delay r x p y = cond sound (changeOn n m debt delay r x p y) (changeOf (Refused 30) x y debt)
+changeAt sound n m debt delay r x p y = changeOf (effectOn sound n m debt delay r x p y) x y debt

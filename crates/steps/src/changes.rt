@@ -15,7 +15,7 @@ ghost use Prim.Native.Nat.{_+_, _≤_};
 ghost use lib.Dec.{eqb};
 ghost use Rattle.rules.specs.Words.{ceiling};
 ghost use Rattle.rules.specs.declared.Effect.the-variants.{Refused};
-ghost use Rattle.steps.specs.Changing.{slotPlace, unitPlace, changeOf, changeOn, changeAt};
+ghost use Rattle.steps.specs.Changing.{slotPlace, unitPlace, changeOf, changeAt};
 
 // The answer, and the debt, the unit and the slot after the step: as they were where it is refused.
 pub(crate) struct Change {
@@ -80,27 +80,8 @@ fn change_of(e: Effect, x: UnitRecord, y: Slot, debt: u64) -> Change
     }
 }
 
-// The change that a step makes to the unit x, whose parent is p, and to the slot y, on a sound board with n units and m slots.
-fn change_on(
-    n: u16,
-    m: u16,
-    debt: u64,
-    delay: u16,
-    r: StepRecord,
-    x: UnitRecord,
-    p: u16,
-    y: Slot,
-) -> Change
-    requires { ⌜ (x .weight + y .weight ≤ debt) × (debt ≤ ceiling) ⌝ }
-    ensures { λ c. ⌜ c ≡ changeOn n m debt delay r x p y ⌝ }
-{
-    let a = action(r.kind);
-    let k = place_refusal(n, m, r, a);
-    let e = unless_refused(k, record_rule(debt, delay, r, x, p, y, a));
-    change_of(e, x, y, debt)
-}
-
-// The same, where it is known whether the board is sound: one that is not refuses the step.
+// The change that a step makes to the unit x, whose parent is p, and to the slot y, on a board with n units and m slots. It is known
+// whether the board is sound: one that is not refuses the step.
 pub(crate) fn change_at(
     sound: bool,
     n: u16,
@@ -123,5 +104,8 @@ pub(crate) fn change_at(
             slot: y,
         };
     }
-    change_on(n, m, debt, delay, r, x, p, y)
+    let a = action(r.kind);
+    let k = place_refusal(n, m, r, a);
+    let e = unless_refused(k, record_rule(debt, delay, r, x, p, y, a));
+    change_of(e, x, y, debt)
 }

@@ -1,16 +1,57 @@
--- `change_at` meets its contract: the test is the definition's.
+-- `change_at` meets its contract: on a sound board the number that refuses the place is the bracket's head, and the rest is what its callees say.
+use mathlib.Core.Path.{ap, _∙_}
+use borrow.Author.Needs.{needs}
 use borrow.Author.Tests.{not-true, not-false}
+use Rattle.rules.specs.Facts.{judge}
+use Rattle.rules.specs.Steps.{placeChecks, recordRule}
+use Rattle.rules.specs.declared.Action.{Action}
+use Rattle.rules.specs.declared.Effect.{Effect}
+use Rattle.rules.specs.declared.Effect.the-variants.{Refused}
+use Rattle.steps.specs.Changing.{changeOf}
+use Rattle.steps.proofs.Clamping.{placed-effect}
 use Rattle.steps.proofs.changes.change_at.Statement.{statement}
 use Rattle.steps.proofs.changes.change_at.Tie as tie
 
 returns : tie.Need-returns
 returns c = rw (not-true (c .before .args .sound) (c .if1 .taken))
 
-change-on-requires : tie.Need-change-on-requires
-change-on-requires c κs = c .before .pre (not-false (c .before .args .sound) (c .if1 .left))
+action-requires : tie.Need-action-requires
+action-requires c κs = search needs
+
+place-refusal-requires : tie.Need-place-refusal-requires
+place-refusal-requires c κs = search needs
+
+record-rule-requires : tie.Need-record-rule-requires
+record-rule-requires c κs = let d = c .before .before in d .before .pre (not-false (d .before .args .sound) (d .if1 .left))
+
+unless-refused-requires : tie.Need-unless-refused-requires
+unless-refused-requires c κs = search needs
+
+change-of-requires : tie.Need-change-of-requires
+change-of-requires c κs = search needs
 
 returns-2 : tie.Need-returns-2
-returns-2 c = rw (not-false (c .before .before .args .sound) (c .before .if1 .left)) (c .change-on .ensures)
+returns-2 c =
+    let e = c .before .unless-refused in
+    let k = c .before .before .before .place-refusal in
+    let a = c .before .before .before .before .action in
+    let d = c .before .before .before .before .before in
+    let g = d .before .args in
+    rw (not-false (g .sound) (d .if1 .left))
+    (c .change-of .ensures
+    ∙ ap (λ (f : Effect). changeOf f (g .x) (g .y) (g .debt))
+    (placed-effect (g .n) (g .m) (g .r) (a .result) (k .result) (c .before .before .record-rule .result) (e .result) (k .ensures) (e .ensures)
+    ∙ ap (judge Refused (placeChecks (g .n) (g .m) (g .r) (a .result))) (c .before .before .record-rule .ensures)
+    ∙ ap (λ (b : Action). judge Refused (placeChecks (g .n) (g .m) (g .r) b) (recordRule (g .debt) (g .delay) (g .r) (g .x) (g .p) (g .y) b)) (a .ensures)))
 
 pub change-at-spec : {M : Type 1} → statement M
-change-at-spec = tie.close (tie.spec returns change-on-requires returns-2)
+change-at-spec =
+    tie.close
+    (tie.spec
+    returns
+    action-requires
+    place-refusal-requires
+    record-rule-requires
+    unless-refused-requires
+    change-of-requires
+    returns-2)
