@@ -51,7 +51,7 @@ fn records_from(list: &[u16], from: usize, count: usize) -> [StepRecord; BATCH]
 }
 
 // One batch after the other, each on the board that the one before it gave.
-pub(crate) fn batched(mut b: Board, list: &[u16]) -> Walked
+pub fn batched(mut b: Board, list: &[u16]) -> Walked
     ensures { λ w. ⌜ w ≡ walkOf b (recordsOf (now (list .entry))) ⌝ }
 {
     let n = list.len() / 4;

@@ -1,4 +1,4 @@
-// Loops over the public calls on a board, for a benchmark in another language: boards hold enums, so only numbers and slices of them are passed.
+// Loops over the public calls on a board, for a benchmark in another language: boards hold enums, so only numbers, step records and slices of them are passed.
 mod batches;
 mod delays;
 mod lent;
@@ -6,9 +6,10 @@ mod records;
 mod trees;
 mod walks;
 
-use batches::batched;
+pub use batches::batched;
 use delays::sound_count;
-use trees::tree_board;
+pub use trees::tree_board;
+pub use walks::Walked;
 use walks::stepped;
 ghost use mathlib.Core.Path.{_≡_};
 ghost use Rattle.rules.specs.Facts.{oneIf};
@@ -33,14 +34,6 @@ pub extern "C" fn bench_steps(n: u16, m: u16, d: u16, list: &[u16]) -> u64
     ensures { λ r. ⌜ r ≡ accepted n m d (recordsOf (now (list .entry))) ⌝ }
 {
     stepped(tree_board(n, m, d), list).count
-}
-
-// The same, by the run over a batch.
-#[no_mangle]
-pub extern "C" fn bench_batches(n: u16, m: u16, d: u16, list: &[u16]) -> u64
-    ensures { λ r. ⌜ r ≡ accepted n m d (recordsOf (now (list .entry))) ⌝ }
-{
-    batched(tree_board(n, m, d), list).count
 }
 
 // With how many of the delays the board after a list is sound.

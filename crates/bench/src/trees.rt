@@ -85,7 +85,7 @@ fn parent_count(n: u16) -> usize
     n as usize - 1
 }
 
-pub(crate) fn tree_board(n: u16, m: u16, d: u16) -> Board
+pub fn tree_board(n: u16, m: u16, d: u16) -> Board
     ensures { λ b. ⌜ b ≡ treeBoard n m d ⌝ }
 {
     let k = parent_count(n);

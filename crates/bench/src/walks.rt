@@ -8,9 +8,9 @@ ghost use Rattle.bench.specs.Records.{recordsOf};
 ghost use Rattle.bench.specs.Counts.{walkOf};
 
 // The board after a list, and how many of its steps were accepted.
-pub(crate) struct Walked {
-    pub(crate) board: Board,
-    pub(crate) count: u64,
+pub struct Walked {
+    pub board: Board,
+    pub count: u64,
 }
 
 // One step after the other, each on the board that the one before it gave.

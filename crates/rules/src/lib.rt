@@ -77,10 +77,11 @@ pub enum Effect {
     OnBoth(UnitRecord, Slot, u64),
 }
 
-// What an opening or a step gives: 0 or the number that refused it, and the board after it.
+// What an opening or a step gives: the board after it, and 0 or the number that refused it.
+// The board comes first: behind a gap the compiler copies it once more.
 pub struct Outcome {
-    pub answer: u16,
     pub board: Board,
+    pub answer: u16,
 }
 
 // The answer to a question for a unit's depth.

@@ -35,7 +35,7 @@ ranOn = struct Q.the-type Q′.the-laws Q′.the-plain Q′.the-copy
 
 -- the fields of an outcome
 pub answer-is : (o : Outcome) → Is (outcome .row) o (outcome .vals o) → Is u16 (o .answer) (vint w16 (o .answer) ∷ [])
-answer-is o is = structs.owed O.the-type O′.the-laws o (outcome .vals o) is .0
+answer-is o is = structs.owed O.the-type O′.the-laws o (outcome .vals o) is .1 .0
 
 pub board-is : (o : Outcome) → Is (outcome .row) o (outcome .vals o) → Is (board .row) (o .board) (board .vals (o .board))
-board-is o is = structs.owed O.the-type O′.the-laws o (outcome .vals o) is .1 .0
+board-is o is = structs.owed O.the-type O′.the-laws o (outcome .vals o) is .0

@@ -73,8 +73,8 @@ pub fn run(b: &mut Board, steps: &[StepRecord], answers: &mut [u16]) -> Ran
     let refusal = run_refusal(*b, steps.len(), answers.len());
     let n = turns(refusal, steps.len());
     let mut o = Outcome {
-        answer: 0,
         board: *b,
+        answer: 0,
     };
     let mut zeros: usize = 0;
     let mut i: usize = 0;

@@ -61,8 +61,8 @@ pub(crate) fn acted(mut b: Board, r: StepRecord, tested: bool) -> Outcome
     b.slots[s] = slot;
     b.debt = c.debt;
     Outcome {
-        answer: c.answer,
         board: b,
+        answer: c.answer,
     }
 }
 

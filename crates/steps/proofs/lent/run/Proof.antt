@@ -230,9 +230,9 @@ module _ {M : Type 1} (𝓤 : URA M) (H : Heap 𝓤) (A : Atoms 𝓤) (W : Given
       sets ! 10 refl (of-opd ! (field-at ! 2 refl refl refl)) (tt, record { fits = room-s .0 }) $
       asks ! fm _ (number w64) (λ n. n ≡ turnsOf k (length rs)) (turns-gives 𝓤 H A at-mem go W C fm known k (length rs) (ik .1) (room-s .0)) (and-then ! (local-at ! 4 refl) (and-then ! (local-at ! 10 refl) (no-more !))) (λ n n-is in′.
       lands-at ! 5 refl (tt, record { fits = in′ .1 }) $
-      -- `let mut o = Outcome { answer: 0, board: *b }`, `let mut zeros = 0`, `let mut i = 0`, and the loop
+      -- `let mut o = Outcome { board: *b, answer: 0 }`, `let mut zeros = 0`, `let mut i = 0`, and the loop
       sets ! 9 refl (of-opd ! (behind ! 1 18 refl refl)) (board .lawful 𝓤 H A W .typed h _ ih .0) $
-      lets ! 6 refl (agg ! (and-then ! (lit ! tt) (and-then ! (local-at ! 9 refl) (no-more !)))) (outcome .lawful 𝓤 H A W .typed (begun h) _ (begun-is h ih) .0) $
+      lets ! 6 refl (agg ! (and-then ! (local-at ! 9 refl) (and-then ! (lit ! tt) (no-more !)))) (outcome .lawful 𝓤 H A W .typed (begun h) _ (begun-is h ih) .0) $
       lets ! 7 refl (of-opd ! (lit ! tt)) (tt, record { fits = lit< tt }) $
       lets ! 8 refl (of-opd ! (lit ! tt)) (tt, record { fits = lit< tt }) $
       first ! $ blocks ! $ looped k n k-is n-is (ik .1) q′ bs (start h rs out n ih))))))

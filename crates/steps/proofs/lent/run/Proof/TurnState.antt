@@ -26,7 +26,7 @@ use Rattle.steps.proofs.RunLaws.{taken-sound, counts-le, written-length
 use Rattle.steps.proofs.PlainData.{board, stepRecord, outcome}
 
 pub begun-is : (h : Board) → Is (board .row) h (board .vals h) → Is (outcome .row) (begun h) (outcome .vals (begun h))
-begun-is h ih = structs.owes O.the-type O′.the-laws (begun h) ((refl, lit< tt), (ih, tt))
+begun-is h ih = structs.owes O.the-type O′.the-laws (begun h) (ih, ((refl, lit< tt), tt))
 
 -- i turns are taken, the last step gave o, z zeros are counted, and the buffer is ks
 pub record Turned (h : Board) (rs : List StepRecord) (out : List ℕ) (n : ℕ) : Type 0 where

@@ -1,8 +1,8 @@
 -- `bench_batches` meets its contract: the walk's count, on the board that was opened.
 use borrow.Author.Needs.{needs}
 use Rattle.bench.proofs.WalkLaws.{walk-counted}
-use Rattle.bench.proofs.bench_batches.Statement.{statement}
-use Rattle.bench.proofs.bench_batches.Tie as tie
+use Rattle.bench_batches.proofs.bench_batches.Statement.{statement}
+use Rattle.bench_batches.proofs.bench_batches.Tie as tie
 
 tree-board-requires : tie.Need-tree-board-requires
 tree-board-requires c κs = search needs
