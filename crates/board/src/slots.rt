@@ -1,6 +1,7 @@
 // What is asked of a single slot, and the unit that it pends for.
 use crate::rows::all3;
 use crate::rows::all4;
+use rules::GRANT;
 use rules::Kind;
 use rules::Slot;
 ghost use mathlib.Core.Path.{_≡_};
@@ -38,7 +39,7 @@ fn request_fits(y: Slot, n: u16) -> bool
 fn supply_fits(y: Slot, n: u16) -> bool
     ensures { λ r. ⌜ r ≡ tests (kindRow n [] y Kind.Supply) ⌝ }
 {
-    all3(y.from == 0, y.to < n, y.weight == 16_777_216)
+    all3(y.from == 0, y.to < n, y.weight == GRANT)
 }
 
 // A junk slot may be from any number; past the last entry the parent is 0.

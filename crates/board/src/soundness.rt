@@ -4,6 +4,7 @@ use crate::slots::pends_for;
 use crate::slots::slot_fits;
 use crate::units::entry_fits;
 use rules::Board;
+use rules::CEILING;
 ghost use mathlib.Core.Path.{_≡_};
 ghost use mathlib.Core.List.{_∷_};
 ghost use Rattle.rules.specs.Facts.{tests, atMost};
@@ -29,7 +30,7 @@ fn ranges_fit(n: u16, m: u16, delay: u16, debt: u64) -> bool
     if delay > 255 {
         return false;
     }
-    if debt > 1_099_511_627_776 {
+    if debt > CEILING {
         return false;
     }
     true

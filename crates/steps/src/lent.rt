@@ -26,7 +26,8 @@ pub fn step_lent(b: &mut Board, r: StepRecord) -> u16
 fn run_refusal(b: Board, steps: usize, room: usize) -> u16
     ensures { λ k. ⌜ k ≡ refusalOf b steps room ⌝ }
 {
-    if !is_sound(b) {
+    let sound = is_sound(b);
+    if !sound {
         return 30;
     }
     if steps > room {

@@ -7,9 +7,6 @@ use rules::Slot;
 use rules::State;
 use rules::UnitRecord;
 
-// The weight that a start or a grant brings into the board.
-pub(crate) const GRANT: u64 = 16777216;
-
 pub(crate) fn message(kind: Kind, from: u16, to: u16, weight: u64) -> Slot
     ensures { λ y. ⌜ y ≡ message kind from to weight ⌝ }
 {

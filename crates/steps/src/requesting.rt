@@ -6,15 +6,13 @@ ghost use Rattle.rules.specs.Words.{grant, ceiling};
 ghost use Rattle.rules.specs.Steps.{message, requestChecks, requestEffect, grantFits, supplied};
 ghost use Rattle.rules.specs.declared.Effect.the-variants.{Refused, OnSlot};
 ghost use Rattle.rules.specs.declared.Kind.the-variants.{Request, Supply};
-use crate::made::GRANT;
 use crate::made::message;
+use rules::CEILING;
 use rules::Effect;
+use rules::GRANT;
 use rules::Kind;
 use rules::Slot;
 use rules::UnitRecord;
-
-// The most that the debt may be.
-const CEILING: u64 = 1099511627776;
 
 pub(crate) fn request(debt: u64, u: u16, x: UnitRecord, y: Slot) -> Effect
     ensures { λ e. ⌜ e ≡ judge Refused (requestChecks x y) (requestEffect debt u x) ⌝ }
