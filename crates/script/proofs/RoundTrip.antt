@@ -7,7 +7,7 @@ use native.Mathlib.Nat.{not-suc-le-zero}
 use native.Mathlib.Omega.{arith}
 use lib.ListN.{length, take, drop, getD, length-append}
 use lib.Seq.{sets-eq, take-at, drop-at, length-take-le}
-use Rattle.rules.specs.Facts.{Claim, Claims}
+use Rattle.rules.specs.Facts.{Claim, Claims, sameList}
 use Rattle.rules.specs.Actions.{kinds, actionOf, isKnown}
 use Rattle.rules.specs.Letters.{letters, used}
 use Rattle.rules.specs.Guarantee.{Fits16}
@@ -18,7 +18,7 @@ use Rattle.placing.specs.Placing.{wrote, written}
 use Rattle.placing.specs.declared.Wrote.the-variants.{Count}
 use Rattle.placing.proofs.WriteLaws.{wrote-count, written-fits}
 use Rattle.fields.specs.Fields.{tab, countOf, fieldOf, fieldCount}
-use Rattle.script.specs.Words.{words, sameBytes, placeOf, wordNumber}
+use Rattle.script.specs.Words.{words, placeOf, wordNumber}
 use Rattle.script.specs.Lines.{arguments, allNumbers, values, rightCount, lineChecks, readingBy, reading}
 use Rattle.script.specs.Writing.{lettersOf, stepLine, stepText, stepWrote, stepWritten}
 use Rattle.script.specs.RoundTrips.{RoundTrip}
@@ -38,7 +38,7 @@ unfolding countOf
 word-none = by-kind (λ k. countOf tab (wordOf k) ≡ 0) refl refl refl refl refl refl refl
 
 word-back : (k : ℕ) → 1 ≤ k → k ≤ kinds → wordNumber (wordOf k) ≡ k
-unfolding placeOf sameBytes
+unfolding placeOf sameList
 word-back = by-kind (λ k. wordNumber (wordOf k) ≡ k) refl refl refl refl refl refl refl
 
 count-right : (k n : ℕ) → 1 ≤ k → n ≡ suc (length (letters (actionOf k))) → Claim (rightCount k n)

@@ -6,7 +6,7 @@ use native.Mathlib.Omega.{arith}
 use lib.Dec.{eqb}
 use Rattle.rules.specs.Facts.{Claims, judge}
 use Rattle.rules.specs.Words.{unitAt, slotAt, parentAt}
-use Rattle.rules.specs.Sound.{Sound, kindRow}
+use Rattle.rules.specs.Sound.{Sound, kindRowOn}
 use Rattle.rules.specs.Letters.{unitBy, slotOf, placeChecks}
 use Rattle.rules.specs.Steps.{unitOf, recordRule, effectBy, applied}
 use Rattle.rules.specs.declared.Action.{Action}
@@ -38,7 +38,7 @@ module _ (b : Board) (h : Sound b) where
   receiver-in-use : (j : ℕ) → j < b .m → slotAt b j .to < b .n
   receiver-in-use j l = by-kind (slotAt b j .kind) (slot-row b h j l)
     where
-      by-kind : (k : Kind) → Claims (kindRow (b .n) (b .parents) (slotAt b j) k) → slotAt b j .to < b .n
+      by-kind : (k : Kind) → Claims (kindRowOn b (slotAt b j) k) → slotAt b j .to < b .n
       by-kind Empty p = omega (arith, h .s1-sizes, p)
       by-kind Work p = p .1 .0
       by-kind Return p = omega (arith, p, parent-below b h (slotAt b j .from) (p .0) (p .1 .0))
