@@ -1,3 +1,4 @@
 pub mod Changing
 pub mod Turns
+pub mod StepMeets
 pub mod RunMeets
