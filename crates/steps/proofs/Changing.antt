@@ -1,11 +1,11 @@
 -- A change stored at its places is the step: what the step and each turn of a batch rest on.
 use mathlib.Core.Path.{_≡_, refl, sym, ap, _∙_}
 use mathlib.Core.Bool.{Bool, true, false}
-use Prim.Native.Nat.{ℕ, _+_, _≤_}
+use Prim.Native.Nat.{ℕ}
 use native.Mathlib.Omega.{arith}
 use lib.ListN.{set}
 use lib.Seq.{set-getD}
-use Rattle.rules.specs.Words.{blankUnit, blankSlot, ceiling, parentAt, unitAt, slotAt}
+use Rattle.rules.specs.Words.{blankUnit, blankSlot, parentAt, unitAt, slotAt}
 use Rattle.rules.specs.Sound.{Sound, sound}
 use Rattle.rules.specs.Steps.{actionOf, effect, changed, applied, soundStep, step}
 use Rattle.rules.specs.declared.Effect.{Effect}
@@ -15,6 +15,7 @@ use Rattle.rules.specs.declared.StepRecord.{StepRecord}
 use Rattle.rules.specs.declared.Outcome.{Outcome}
 use Rattle.rules.proofs.SoundLaws.{sound-claims, weights-fit}
 use Rattle.steps.specs.declared.changes.Change.{Change}
+use Rattle.steps.specs.WeightsFit.{WeightsFit}
 use Rattle.steps.specs.Changing.{slotPlace, unitPlace, changeOf, effectOn, changeAt}
 use Rattle.steps.proofs.Clamping.{clamped-step}
 
@@ -32,8 +33,10 @@ change-applied b u s (OnBoth x y debt) = refl
 
 module _ (b : Board) (r : StepRecord) (h : Sound b) (u s : ℕ) (slot-is : s ≡ slotPlace r) (unit-is : u ≡ unitPlace r (slotAt b s .to)) where
   -- the weights there are part of the debt
-  pub place-weights : (unitAt b u .weight + slotAt b s .weight ≤ b .debt) × (b .debt ≤ ceiling)
-  place-weights = (weights-fit b h u s (omega arith) (omega arith), h .s5-s6-debt .1 .0)
+  pub place-weights : WeightsFit (b .debt) (unitAt b u) (slotAt b s) (actionOf (r .kind))
+  place-weights =
+      let both = weights-fit b h u s (omega arith) (omega arith) in
+      record { most = h .s5-s6-debt .1 .0; unit = omega (arith, both); delivered = λ e. both }
 
   pub stored-step : (c : Change) → c ≡ changeAt true (b .n) (b .m) (b .debt) (b .delay) r (unitAt b u) (parentAt b u) (slotAt b s) → stored b u s c ≡ soundStep b r
   unfolding soundStep effect

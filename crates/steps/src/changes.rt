@@ -11,10 +11,10 @@ use rules::StepRecord;
 use rules::UnitRecord;
 ghost use mathlib.Core.Path.{_≡_};
 ghost use mathlib.Core.Bool.{true, cond};
-ghost use Prim.Native.Nat.{_+_, _≤_};
 ghost use lib.Dec.{eqb};
-ghost use Rattle.rules.specs.Words.{ceiling};
+ghost use Rattle.rules.specs.Steps.{actionOf};
 ghost use Rattle.rules.specs.declared.Effect.the-variants.{Refused};
+ghost use Rattle.steps.specs.WeightsFit.{WeightsFit};
 ghost use Rattle.steps.specs.Changing.{slotPlace, unitPlace, changeOf, changeAt};
 
 // The answer, and the debt, the unit and the slot after the step: as they were where it is refused.
@@ -93,7 +93,7 @@ pub(crate) fn change_at(
     p: u16,
     y: Slot,
 ) -> Change
-    requires { ⌜ (sound ≡ true → (x .weight + y .weight ≤ debt) × (debt ≤ ceiling)) ⌝ }
+    requires { ⌜ (sound ≡ true → WeightsFit debt x y (actionOf (r .kind))) ⌝ }
     ensures { λ c. ⌜ c ≡ changeAt sound n m debt delay r x p y ⌝ }
 {
     if !sound {
