@@ -18,6 +18,7 @@ use Rattle.rules.proofs.FinishedLaws.{verdict-sound}
 use Rattle.rules.specs.declared.Board.{Board}
 use Rattle.rules.specs.declared.Outcome.{Outcome}
 use Rattle.rules.specs.declared.Verdict.{Verdict}
+use Rattle.steps.specs.NoStep.{noStep}
 use Rattle.fields.specs.Fields.{upTo}
 use Rattle.script.specs.Lines.{reading, refusalBy}
 use Rattle.script.specs.declared.Reading.{Reading}
@@ -83,9 +84,9 @@ part-batched (suc k) at n b s room l = by-end (leb (length s) at) l (part-batche
 
 -- ---- lines as step records
 -- a record of kind 0 is refused and leaves a sound board as it was
-unknown-keeps : (b : Board) → Sound b → step b (recordOf (Refused 0)) .board ≡ b
+unknown-keeps : (b : Board) → Sound b → step b noStep .board ≡ b
 unfolding recordRule effect applied soundStep
-unknown-keeps b h = ap (λ (o : Outcome). o .board) (step-sound b (recordOf (Refused 0)) h)
+unknown-keeps b h = ap (λ (o : Outcome). o .board) (step-sound b noStep h)
 
 line-board : (b : Board) → Sound b → (x : Reading) → step b (recordOf x) .board ≡ lineOutcome b x .board
 line-board b h (Opens m d n) = unknown-keeps b h

@@ -22,20 +22,13 @@ use Rattle.rules.specs.declared.Batch.{Batch}
 use Rattle.rules.specs.declared.Ran.the-variants.{Zeros, Refused}
 use Rattle.rules.proofs.SoundLaws.{below-or-not}
 use Rattle.rules.proofs.Theorem.{carries}
-
--- the record that an array reads past its end
-abbrev pub blankStep : StepRecord
-blankStep = record { kind = 0; unit = 0; other = 0; slot = 0 }
+use Rattle.steps.specs.NoStep.{noStep}
 
 -- the batch where the steps rs are left on the board b, z zeros are counted, and the next answer and the next debt go to place i of ks and ds
 unfoldable pub filled : Board → List StepRecord → ℕ → ℕ → List ℕ → List ℕ → Batch
 filled b rs z i ks ds = record { ran = Zeros (z + zeros (answers b rs)); board = after b rs; answers = sets ks i (answers b rs); debts = sets ds i (debts b rs) }
 
 -- ---- a turn
-pub one-at-most : (t : Bool) → oneIf t ≤ 1
-one-at-most true = omega arith
-one-at-most false = omega arith
-
 pub one-more : (z m : ℕ) (t : Bool) → (z + oneIf t) + m ≡ z + cond t (suc m) m
 one-more z m true = omega arith
 one-more z m false = omega arith
@@ -49,16 +42,16 @@ filled-step b r rs z i ks ds =
     (one-more z (zeros (answers c rs)) (accepted b r))
 
 -- the step at place i of the n that are run, with its outcome o stored and counted, leaves what the steps from i on gave
-pub filled-turn : (steps : List StepRecord) (n : ℕ) (b : Board) (z i k : ℕ) (ks ds : List ℕ) (o : Outcome) → n ≤ length steps → i < n → o ≡ step b (getD steps i blankStep) → k ≡ oneIf (eqb (o .answer) 0)
+pub filled-turn : (steps : List StepRecord) (n : ℕ) (b : Board) (z i k : ℕ) (ks ds : List ℕ) (o : Outcome) → n ≤ length steps → i < n → o ≡ step b (getD steps i noStep) → k ≡ oneIf (eqb (o .answer) 0)
     → filled (o .board) (drop (i + 1) (take n steps)) (z + k) (i + 1) (set ks i (o .answer)) (set ds i (o .board .debt)) ≡ filled b (drop i (take n steps)) z i ks ds
 filled-turn steps n b z i k ks ds o m l e f =
     let rs = take n steps in
-    let g : o ≡ step b (getD rs i blankStep) = e ∙ ap (step b) (sym (getD-take n steps i blankStep l)) in
+    let g : o ≡ step b (getD rs i noStep) = e ∙ ap (step b) (sym (getD-take n steps i noStep l)) in
     ap (λ (j : ℕ). filled (o .board) (drop (i + 1) rs) (z + j) (i + 1) (set ks i (o .answer)) (set ds i (o .board .debt))) f
     ∙ ap (λ (j : ℕ). filled (o .board) (drop j rs) (z + oneIf (eqb (o .answer) 0)) j (set ks i (o .answer)) (set ds i (o .board .debt))) (add-one i)
     ∙ ap (λ (p : Outcome). filled (p .board) (drop (suc i) rs) (z + oneIf (eqb (p .answer) 0)) (suc i) (set ks i (p .answer)) (set ds i (p .board .debt))) g
-    ∙ filled-step b (getD rs i blankStep) (drop (suc i) rs) z i ks ds
-    ∙ ap (λ (qs : List StepRecord). filled b qs z i ks ds) (sym (drop-cons rs i blankStep (omega (arith, length-take n steps))))
+    ∙ filled-step b (getD rs i noStep) (drop (suc i) rs) z i ks ds
+    ∙ ap (λ (qs : List StepRecord). filled b qs z i ks ds) (sym (drop-cons rs i noStep (omega (arith, length-take n steps))))
 
 -- ---- the end
 filled-none : (b : Board) (z i : ℕ) (ks ds : List ℕ) → filled b [] z i ks ds ≡ record { ran = Zeros z; board = b; answers = ks; debts = ds }

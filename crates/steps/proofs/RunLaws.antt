@@ -22,7 +22,8 @@ use Rattle.rules.proofs.SoundLaws.{sound-claims, sound-tested}
 use Rattle.rules.proofs.ListLaws.{step-keeps-sound}
 use Rattle.rules.proofs.Theorem.{carries}
 use Rattle.steps.specs.Turns.{refusalOf, turnsOf, countedOf, ranOf}
-use Rattle.steps.proofs.RunTurns.{begun, noStep, taken, counts, written}
+use Rattle.steps.specs.NoStep.{noStep}
+use Rattle.steps.proofs.RunTurns.{begun, taken, counts, written}
 use Rattle.steps.specs.RunMeets.{RunMeets}
 
 -- ---- on a sound board every turn has a sound board, and no more zeros than turns

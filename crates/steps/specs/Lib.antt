@@ -1,3 +1,4 @@
+pub mod NoStep
 pub mod WeightsFit
 pub mod Changing
 pub mod Turns

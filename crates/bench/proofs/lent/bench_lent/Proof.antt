@@ -44,7 +44,7 @@ use Rattle.rules.specs.Lists.{answers}
 use Rattle.rules.specs.Runs.{zeros}
 use Rattle.rules.specs.declared.Board.{Board}
 use Rattle.rules.specs.declared.StepRecord.{StepRecord}
-use Rattle.steps.proofs.RunTurns.{noStep}
+use Rattle.steps.specs.NoStep.{noStep}
 use Rattle.steps.proofs.Walking.{number, tailOf, Places, envOf, lives, laid, begins, aside, frees1, frees4, frees-room, frees0, spelled, local-at, field-at, behind, lets, sets, lands-at, Answer, gives, asks, Means, by-walk}
 use Rattle.steps.proofs.Lending.{looks-slice-at, takes-at, returns-at, lends-local, local-back}
 use Rattle.steps.proofs.PlainData.{board, stepRecord}

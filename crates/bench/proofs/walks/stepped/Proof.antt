@@ -6,7 +6,7 @@ use lib.ListN.{length}
 use lib.Dec.{eqb}
 use borrow.Author.Needs.{needs}
 use Rattle.rules.specs.Steps.{step}
-use Rattle.steps.proofs.BatchLaws.{one-at-most}
+use Rattle.board.proofs.SlotLaws.{one-at-most}
 use Rattle.steps.proofs.StepLaws.{step-met}
 use Rattle.bench.proofs.WalkLaws.{Turn, turn-begins, turn-goes, turn-ends}
 use Rattle.bench.proofs.walks.stepped.Statement.{statement}

@@ -18,8 +18,9 @@ use Rattle.rules.specs.Lists.{answers}
 use Rattle.rules.specs.Runs.{zeros}
 use Rattle.rules.specs.declared.Board.{Board}
 use Rattle.rules.specs.declared.StepRecord.{StepRecord}
-use Rattle.steps.proofs.RunTurns.{noStep}
-use Rattle.steps.proofs.BatchLaws.{one-at-most, one-more}
+use Rattle.steps.specs.NoStep.{noStep}
+use Rattle.board.proofs.SlotLaws.{one-at-most}
+use Rattle.steps.proofs.BatchLaws.{one-more}
 use Rattle.steps.proofs.PlainData.{board, stepRecord}
 
 step-counted : (b : Board) (r : StepRecord) (rs : List StepRecord) (z : ℕ) → (z + oneIf (eqb (step b r .answer) 0)) + zeros (answers (step b r .board) rs) ≡ z + zeros (answers b (r ∷ rs))
