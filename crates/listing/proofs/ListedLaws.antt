@@ -8,7 +8,6 @@ use native.Mathlib.Omega.{arith}
 use lib.ListN.{length, take, length-append}
 use lib.Seq.{take-append-add}
 use borrow.Author.Tests.{eq-eqb}
-use Rattle.rules.specs.Opening.{opening}
 use Rattle.rules.specs.Lists.{after}
 use Rattle.rules.specs.Finished.{verdict}
 use Rattle.rules.specs.Guarantee.{Guaranteed, Guarantee}
@@ -24,7 +23,7 @@ use Rattle.script.specs.Lines.{reading, parentsOf}
 use Rattle.script.specs.declared.Reading.{Reading}
 use Rattle.script.specs.declared.Reading.the-variants.{Opens, Asks, Refused as LineRefused}
 use Rattle.texts.specs.Texts.{heading, finishedWord, stateWord, refusedText}
-use Rattle.listing.specs.Scripts.{firstOutcome, lineOutcome, laterOutcome, startOutcome, Line, textOf, laterLines, openedLines, listing}
+use Rattle.listing.specs.Scripts.{firstOutcome, lineOutcome, laterOutcome, startOutcome, Line, textOf, laterLines, listing}
 use Rattle.listing.specs.Listed.{OpenedBy, askedBy, stepsOf, Says, AllSay, laterOf, linesListed, ListingGuarantee}
 use Rattle.listing.proofs.StartLaws.{reading-number, start-short, start-empty, start-first}
 

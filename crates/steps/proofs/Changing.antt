@@ -13,7 +13,7 @@ use Rattle.rules.specs.declared.Effect.the-variants.{Refused, OnUnit, OnSlot, O
 use Rattle.rules.specs.declared.Board.{Board}
 use Rattle.rules.specs.declared.StepRecord.{StepRecord}
 use Rattle.rules.specs.declared.Outcome.{Outcome}
-use Rattle.rules.proofs.SoundLaws.{sound-claims, weights-fit}
+use Rattle.rules.proofs.SoundLaws.{sound-claims, unit-weight, weights-fit}
 use Rattle.steps.specs.declared.changes.Change.{Change}
 use Rattle.steps.specs.WeightsFit.{WeightsFit}
 use Rattle.steps.specs.Changing.{slotPlace, unitPlace, changeOf, effectOn, changeAt}
@@ -34,9 +34,11 @@ change-applied b u s (OnBoth x y debt) = refl
 module _ (b : Board) (r : StepRecord) (h : Sound b) (u s : ℕ) (slot-is : s ≡ slotPlace r) (unit-is : u ≡ unitPlace r (slotAt b s .to)) where
   -- the weights there are part of the debt
   pub place-weights : WeightsFit (b .debt) (unitAt b u) (slotAt b s) (actionOf (r .kind))
-  place-weights =
-      let both = weights-fit b h u s (omega arith) (omega arith) in
-      record { most = h .s5-s6-debt .1 .0; unit = omega (arith, both); delivered = λ e. both }
+  place-weights = record {
+    most = h .s5-s6-debt .1 .0;
+    unit = omega (arith, unit-weight b h u (omega arith), h .s5-s6-debt);
+    delivered = λ e. weights-fit b h u s (omega arith) (omega arith);
+  }
 
   pub stored-step : (c : Change) → c ≡ changeAt true (b .n) (b .m) (b .debt) (b .delay) r (unitAt b u) (parentAt b u) (slotAt b s) → stored b u s c ≡ soundStep b r
   unfolding soundStep effect
