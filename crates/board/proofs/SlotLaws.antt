@@ -31,7 +31,7 @@ unfolding sumOf
 sum-end f xs j l = ap (sumOf (λ k. f)) (drop-of-length-le xs l)
 
 -- ---- the counts
-one-at-most : (t : Bool) → oneIf t ≤ 1
+pub one-at-most : (t : Bool) → oneIf t ≤ 1
 one-at-most true = omega arith
 one-at-most false = omega arith
 

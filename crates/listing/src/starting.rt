@@ -2,9 +2,9 @@
 use crate::gathering::NEWLINE;
 use crate::gathering::behind;
 use crate::rows::bytes_of;
+use board::blank;
 use board::open;
 use fields::end_from;
-use rules::Board;
 use rules::Outcome;
 use rules::Verdict;
 use script::Reading;
@@ -15,28 +15,18 @@ use texts::write_line;
 ghost use mathlib.Core.Path.{_≡_};
 ghost use mathlib.Core.Bool.{true};
 ghost use mathlib.Core.List.{_++_};
-ghost use Rattle.rules.specs.Opening.{blankBoard, opening};
+ghost use Rattle.rules.specs.Opening.{opening, refusedBy};
 ghost use Rattle.script.specs.Lines.{reading, parentsOf};
 ghost use Rattle.script.specs.declared.Reading.the-variants.{Opens};
 ghost use Rattle.placing.specs.Placing.{wrote, written};
 ghost use Rattle.texts.specs.Texts.{heading, lineText};
-ghost use Rattle.listing.specs.Scripts.{refusedBy, firstOutcome, startOutcome};
+ghost use Rattle.listing.specs.Scripts.{firstOutcome, startOutcome};
 ghost use Rattle.listing.specs.Turns.{bytesOf, startPlace};
-
-// What a refused opening hands back: one of no slot is.
-pub(crate) fn blank_board() -> Board
-    ensures { λ b. ⌜ b ≡ blankBoard ⌝ }
-{
-    let none = [0u16; 1];
-    let o = open(0, 0, &none[0..0]);
-    let board = o.board;
-    board
-}
 
 fn refused(answer: u16) -> Outcome
     ensures { λ o. ⌜ o ≡ refusedBy answer ⌝ }
 {
-    let board = blank_board();
+    let board = blank();
     Outcome { answer, board }
 }
 
