@@ -13,6 +13,7 @@ use Rattle.rules.specs.Sound.{Sound}
 use Rattle.rules.specs.Steps.{recordRule, effect, applied, soundStep, step}
 use Rattle.rules.specs.Lists.{after, answers}
 use Rattle.rules.specs.Runs.{debts}
+use Rattle.rules.proofs.Changes.{refused-applied}
 use Rattle.rules.proofs.Accepted.{step-sound}
 use Rattle.rules.proofs.ListLaws.{step-keeps-sound}
 use Rattle.rules.proofs.FinishedLaws.{verdict-sound}
@@ -87,7 +88,7 @@ part-batched (suc k) at n b s room l = by-end (leb (length s) at) l (part-batche
 -- a record of kind 0 is refused and leaves a sound board as it was
 unknown-keeps : (b : Board) → Sound b → step b noStep .board ≡ b
 unfolding recordRule effect applied soundStep
-unknown-keeps b h = ap (λ (o : Outcome). o .board) (step-sound b noStep h)
+unknown-keeps b h = ap (λ (o : Outcome). o .board) (step-sound b noStep h ∙ refused-applied b 0 0 16)
 
 line-board : (b : Board) → Sound b → (x : Reading) → step b (recordOf x) .board ≡ lineOutcome b x .board
 line-board b h (Opens m d n) = unknown-keeps b h

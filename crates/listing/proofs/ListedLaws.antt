@@ -9,11 +9,12 @@ use lib.ListN.{length, take, length-append}
 use lib.Seq.{take-append-add}
 use borrow.Author.Tests.{eq-eqb}
 use Rattle.rules.specs.Events.{afterAll}
-use Rattle.rules.specs.Lists.{after}
+use Rattle.rules.specs.Lists.{steps, after}
 use Rattle.rules.specs.Finished.{verdict}
-use Rattle.rules.specs.Guarantee.{Guaranteed, Guarantee}
+use Rattle.rules.specs.Guarantee.{Guaranteed, GuaranteeOf}
 use Rattle.rules.proofs.SoundLaws.{below-or-not}
-use Rattle.rules.proofs.Theorem.{guarantee, after-append}
+use Rattle.rules.proofs.EventLaws.{after-append}
+use Rattle.rules.proofs.Theorem.{guarantee}
 use Rattle.rules.specs.declared.Board.{Board}
 use Rattle.rules.specs.declared.StepRecord.{StepRecord}
 use Rattle.rules.specs.declared.Outcome.{Outcome}
@@ -48,7 +49,7 @@ opened-by s e =
 
 -- so the guarantee holds of every list of steps from its board on
 opened-guaranteed : (s : List ℕ) → startOutcome s .answer ≡ 0 → OpenedBy s → (rs : List StepRecord) → Guaranteed (startOutcome s .board) rs (after (startOutcome s .board) rs)
-unfolding Guarantee
+unfolding GuaranteeOf
 opened-guaranteed s e o rs =
     subst (λ (x : Outcome). Guaranteed (x .board) rs (after (x .board) rs)) (sym (o .opens))
     (guarantee (o .m) (o .d) (parentsOf (upTo 10 s)) rs (sym (ap (λ (x : Outcome). x .answer) (o .opens)) ∙ e))
@@ -70,7 +71,7 @@ unfolding stepsOf
 one-line-more f ks l =
     let rs : List StepRecord = askedBy (reading false l) in
     line-after (after f (stepsOf ks)) (reading false l)
-    ∙ sym (after-append f (stepsOf ks) rs)
+    ∙ sym (after-append steps f (stepsOf ks) rs)
     ∙ ap (λ (qs : List StepRecord). after f (stepsOf ks ++ qs)) (sym (append-nil rs))
     ∙ ap (after f) (sym (steps-append ks (l ∷ [])))
 
