@@ -8,7 +8,7 @@ use Rattle.rules.specs.Facts.{Claims, oneIf}
 use Rattle.rules.specs.Words.{isIdle, isActive, isWaiting, isEmpty, unitAt, slotAt, blankSlot}
 use Rattle.rules.specs.Sound.{stateRow, pendingIn, pending, Sound, kindRowOn}
 use Rattle.rules.proofs.SumLaws.{sum-part}
-use Rattle.rules.proofs.SoundLaws.{unit-row, slot-row, pending-row, unit-in-debt}
+use Rattle.rules.proofs.SoundLaws.{unit-row, slot-row, pending-row, weights-fit}
 use Rattle.rules.specs.declared.State.{State}
 use Rattle.rules.specs.declared.State.the-variants.{Idle, Active, Waiting}
 use Rattle.rules.specs.declared.Kind.{Kind}
@@ -68,7 +68,7 @@ suspended-active b h i l e = by-state (unitAt b i .state) refl
 pub pending-suspended : (b : Board) → Sound b → (s i : ℕ) → s < b .m → i < b .n → pendingIn i (slotAt b s) (slotAt b s .kind) ≡ 1 → unitAt b i .suspended ≡ true
 unfolding pending
 pending-suspended b h s i l p e =
-    by-flag (unitAt b i .suspended) (omega (arith, sum-part (λ j y. pendingIn i y (y .kind)) (b .slots) s blankSlot (omega (arith, h .s1-sizes, l)), pending-row b h i (omega (arith, h .s1-sizes, p)), e))
+    by-flag (unitAt b i .suspended) (omega (arith, sum-part (λ j y. pendingIn i y (y .kind)) (b .slots) s blankSlot (λ k. refl), pending-row b h i (omega (arith, h .s1-sizes, p)), e))
   where
     by-flag : (t : Bool) → 1 ≤ oneIf t → t ≡ true
     by-flag true q = refl
@@ -79,7 +79,7 @@ pub idle-at-zero : (b : Board) → Sound b → b .debt ≡ 0 → (i : ℕ) → i
 idle-at-zero b h e i l = by-state (unitAt b i .state) refl
   where
     none : unitAt b i .weight ≡ 0
-    none = omega (arith, unit-in-debt b h i l, e)
+    none = omega (arith, weights-fit b h i 0, e)
 
     by-state : (k : State) → unitAt b i .state ≡ k → unitAt b i .state ≡ Idle
     by-state Idle q = q

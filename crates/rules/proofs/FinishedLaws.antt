@@ -11,7 +11,7 @@ use Rattle.rules.specs.Words.{unitAt, slotAt, blankUnit, blankSlot}
 use Rattle.rules.specs.Sound.{unitsWeight, slotsWeight, Sound, sound}
 use Rattle.rules.specs.Finished.{toldFrom, verdict, Complete}
 use Rattle.rules.proofs.SumLaws.{sum-none}
-use Rattle.rules.proofs.SoundLaws.{sound-claims, sound-tested, below-or-not, unit-past, unit-past-weight, slot-past, slot-past-weight, slot-in-debt}
+use Rattle.rules.proofs.SoundLaws.{sound-claims, sound-tested, below-or-not, unit-past, unit-past-weight, slot-past, slot-past-weight, weights-fit}
 use Rattle.rules.proofs.EntryLaws.{idle-is, empty-is, unit-row-as, slot-row-as, pending-as, suspended-active, pending-suspended, idle-at-zero}
 use Rattle.rules.specs.declared.State.the-variants.{Idle}
 use Rattle.rules.specs.declared.Kind.{Kind}
@@ -44,7 +44,7 @@ module _ (b : Board) (h : Sound b) where
   empty-in-use e j l = by-kind (slotAt b j .kind) refl
     where
       none : slotAt b j .weight ≡ 0
-      none = omega (arith, slot-in-debt b h j l, e)
+      none = omega (arith, weights-fit b h 0 j, e)
 
       by-kind : (k : Kind) → slotAt b j .kind ≡ k → slotAt b j .kind ≡ Empty
       by-kind Empty q = q

@@ -12,7 +12,7 @@ use Rattle.rules.specs.Letters.{slotOf}
 use Rattle.rules.specs.Steps.{unitOf, deliverEffect, doneOn, effect, applied, soundStep, step}
 use Rattle.rules.specs.Lists.{steps, after, tally, startBy, startCount, grantBy, grantCount, takenAt, takenBy, takenCount}
 use Rattle.rules.proofs.EventLaws.{accepted-or-not, list-keeps, list-account}
-use Rattle.rules.proofs.SoundLaws.{root-or-other, unit-in-debt, slot-in-debt}
+use Rattle.rules.proofs.SoundLaws.{root-or-other, weights-fit}
 use Rattle.rules.proofs.Changes.{refused-applied}
 use Rattle.rules.proofs.Accepted.{AcceptedAs, shown, accepted-as}
 use Rattle.rules.proofs.StepFits.{accepted-keeps-sound}
@@ -67,13 +67,13 @@ module _ (b : Board) (r : StepRecord) (h : Sound b) where
     deliver-account Empty = omega arith
     deliver-account Work = omega arith
     deliver-account Return =
-        root-or-other (Accounts (y .to) (r .slot) 0) (y .to) (y .weight) _ _ (λ e. omega (arith, slot-in-debt b h (r .slot) (shown 14 c))) (λ l. omega arith)
+        root-or-other (Accounts (y .to) (r .slot) 0) (y .to) (y .weight) _ _ (λ e. omega (arith, weights-fit b h 0 (r .slot))) (λ l. omega arith)
     deliver-account Request = omega arith
     deliver-account Supply = omega arith
 
   rest-account : AcceptedAs b r Rest → Accounts (r .unit) 0 0 (doneOn b r Rest) (takenAt (r .unit) (unitAt b (r .unit) .weight))
   unfolding applied
-  rest-account c = root-or-other (Accounts (r .unit) 0 0) (r .unit) (unitAt b (r .unit) .weight) _ _ (λ e. omega (arith, unit-in-debt b h (r .unit) (shown 13 c))) (λ l. omega arith)
+  rest-account c = root-or-other (Accounts (r .unit) 0 0) (r .unit) (unitAt b (r .unit) .weight) _ _ (λ e. omega (arith, weights-fit b h (r .unit) 0)) (λ l. omega arith)
 
   account-as : (a : Action) → AcceptedAs b r a
       → Accounts (unitOf b r a) (slotOf r a) (startBy a + grantBy (slotAt b (r .slot)) a) (doneOn b r a) (takenBy (r .unit) (unitAt b (r .unit)) (slotAt b (r .slot)) a)

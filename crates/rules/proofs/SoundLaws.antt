@@ -123,20 +123,7 @@ module _ (b : Board) (h : Sound b) where
   pub pending-row : (i : ℕ) → i < 64 → pending (b .slots) i ≡ oneIf (unitAt b i .suspended)
   pending-row i l = each-at (pendingRow b) (b .units) i blankUnit (omega arith) (h .s4-pending) .0
 
-  -- a weight is part of the debt
-  pub unit-weight : (i : ℕ) → i < 64 → unitAt b i .weight ≤ unitsWeight (b .units)
-  unfolding unitsWeight
-  unit-weight i l = sum-part (λ k u. u .weight) (b .units) i blankUnit (omega arith)
-
-  pub slot-weight : (j : ℕ) → j < 256 → slotAt b j .weight ≤ slotsWeight (b .slots)
-  unfolding slotsWeight
-  slot-weight j l = sum-part (λ k y. y .weight) (b .slots) j blankSlot (omega arith)
-
-  pub unit-in-debt : (i : ℕ) → i < b .n → unitAt b i .weight ≤ b .debt
-  unit-in-debt i l = omega (arith, unit-weight i (omega (arith, h .s1-sizes, l)), h .s5-s6-debt)
-
-  pub slot-in-debt : (j : ℕ) → j < b .m → slotAt b j .weight ≤ b .debt
-  slot-in-debt j l = omega (arith, slot-weight j (omega (arith, h .s1-sizes, l)), h .s5-s6-debt)
-
-  pub weights-fit : (i j : ℕ) → i < 64 → j < 256 → unitAt b i .weight + slotAt b j .weight ≤ b .debt
-  weights-fit i j p q = omega (arith, unit-weight i p, slot-weight j q, h .s5-s6-debt)
+  -- the weights of a unit and of a slot are part of the debt
+  pub weights-fit : (i j : ℕ) → unitAt b i .weight + slotAt b j .weight ≤ b .debt
+  unfolding unitsWeight slotsWeight
+  weights-fit i j = omega (arith, sum-part (λ k u. u .weight) (b .units) i blankUnit (λ k. refl), sum-part (λ k y. y .weight) (b .slots) j blankSlot (λ k. refl), h .s5-s6-debt)

@@ -10,7 +10,7 @@ use Rattle.rules.specs.Words.{unitAt, slotAt, grant, ceiling, blankUnit,
 use Rattle.rules.specs.Sound.{stateRow, pendingIn, Sound, kindRowOn}
 use Rattle.rules.specs.Letters.{slotOf}
 use Rattle.rules.specs.Steps.{share, withWeight, shared, message, returned, waitingWith, worked, supplied, unitOf, deliverEffect, returnEffect, doneOn, step}
-use Rattle.rules.proofs.SoundLaws.{root-or-other, parent-below, unit-in-debt, slot-in-debt}
+use Rattle.rules.proofs.SoundLaws.{root-or-other, parent-below, weights-fit}
 use Rattle.rules.proofs.Changes.{Fits, FitsEffect, unit-change, slot-change, effect-sound}
 use Rattle.rules.proofs.EntryLaws.{active-is, waiting-is, empty-is, state-row, waiting-row, unit-row-as, slot-row-as, pending-as, suspended-active, pending-suspended, idle-at-zero}
 use Rattle.rules.proofs.Accepted.{AcceptedAs, shown, shown-grant}
@@ -82,7 +82,7 @@ module _ (b : Board) (r : StepRecord) (h : Sound b) where
   rest-fits : AcceptedAs b r Rest → FitsEffect b (r .unit) 0 (doneOn b r Rest)
   rest-fits c =
       root-or-other (λ e w. FitsEffect b (r .unit) 0 e) (r .unit) 0 _ _
-      (λ e. unit-change b h (r .unit) 0 blankUnit _ (shown 13 c) first-slot (refl, (refl, (refl, tt))) (sym (shown 32 c)) (omega (arith, unit-in-debt b h (r .unit) (shown 13 c))) (omega (arith, debt-ceiling)))
+      (λ e. unit-change b h (r .unit) 0 blankUnit _ (shown 13 c) first-slot (refl, (refl, (refl, tt))) (sym (shown 32 c)) (omega (arith, weights-fit b h (r .unit) 0)) (omega (arith, debt-ceiling)))
       (λ l.
       let active = unit-row-as b h (r .unit) Active (shown 13 c) (active-is _ (shown 31 c)) in
       unit-change b h (r .unit) 0 _ (b .debt) (shown 13 c) first-slot (waiting-row (b .delay) (r .unit) (unitAt b (r .unit) .weight) (b .delay) (active .0) (omega arith) l false refl) (sym (shown 32 c)) refl debt-ceiling)
@@ -182,7 +182,7 @@ module _ (b : Board) (r : StepRecord) (h : Sound b) where
       return-fits : FitsEffect b (y .to) (r .slot) (returnEffect (b .debt) (b .delay) x y)
       return-fits =
           root-or-other (λ z w. FitsEffect b (y .to) (r .slot) z) (y .to) 0 _ _
-          (λ q. slot-change b h (y .to) (r .slot) blankSlot (b .debt - y .weight) receiver used (omega arith) kept (omega (arith, slot-in-debt b h (r .slot) used)) (omega (arith, debt-ceiling)))
+          (λ q. slot-change b h (y .to) (r .slot) blankSlot (b .debt - y .weight) receiver used (omega arith) kept (omega (arith, weights-fit b h 0 (r .slot))) (omega (arith, debt-ceiling)))
           (λ l. returned-fits l (x .state) refl)
 
     deliver-fits : FitsEffect b (y .to) (r .slot) (doneOn b r Deliver)

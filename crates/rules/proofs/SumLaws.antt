@@ -13,11 +13,12 @@ sum-set f [] i a d l = absurd (not-suc-le-zero l)
 sum-set f (x ∷ xs) zero a d l = omega arith
 sum-set f (x ∷ xs) (suc i) a d l = omega (arith, sum-set (λ k. f (suc k)) xs i a d (le-of-suc-le-suc l))
 
-pub sum-part : {A : Type 0} (f : ℕ → A → ℕ) (xs : List A) (i : ℕ) (d : A) → i < length xs → f i (getD xs i d) ≤ sumOf f xs
+-- a part is at most the sum; past the end it is 0
+pub sum-part : {A : Type 0} (f : ℕ → A → ℕ) (xs : List A) (i : ℕ) (d : A) → ((k : ℕ) → f k d ≡ 0) → f i (getD xs i d) ≤ sumOf f xs
 unfolding sumOf
-sum-part f [] i d l = absurd (not-suc-le-zero l)
-sum-part f (x ∷ xs) zero d l = omega arith
-sum-part f (x ∷ xs) (suc i) d l = omega (arith, sum-part (λ k. f (suc k)) xs i d (le-of-suc-le-suc l))
+sum-part f [] i d none = omega (arith, none i)
+sum-part f (x ∷ xs) zero d none = omega arith
+sum-part f (x ∷ xs) (suc i) d none = omega (arith, sum-part (λ k. f (suc k)) xs i d (λ k. none (suc k)))
 
 -- a sum above 0 has a part above 0
 pub record PartAbove {A : Type 0} (f : ℕ → A → ℕ) (xs : List A) (d : A) : Type 0 where

@@ -6,8 +6,8 @@ use Prim.Native.Nat.{ℕ}
 use lib.ListN.{length, replicate}
 use Rattle.rules.specs.Words.{blankUnit, blankSlot, ceiling}
 use Rattle.rules.specs.Sound.{Sound}
-use Rattle.rules.specs.Opening.{opening}
-use Rattle.rules.specs.Steps.{share, message, step}
+use Rattle.rules.specs.Opening.{idleBoard, opening}
+use Rattle.rules.specs.Steps.{share, message, changed, step}
 use Rattle.rules.specs.Lists.{after, answers}
 use Rattle.rules.specs.Finished.{verdict}
 use Rattle.rules.specs.Drains.{Quiet, Drain, drainBound}
@@ -118,15 +118,11 @@ pub record BoundAttained : Type 0 where
 
 -- ---- a sound board on which every step is refused: its one unit is suspended, and its request would pass 2^40. It is active, so no drain begins here
 unfoldable pub stuckBoard : Board
-stuckBoard = record {
-  n = 1;
-  m = 1;
-  delay = 0;
-  debt = ceiling;
-  parents = replicate 64 0;
-  units = record { weight = ceiling; countdown = 0; state = Active; suspended = true } ∷ replicate 63 blankUnit;
-  slots = message Request 0 0 0 ∷ replicate 255 blankSlot;
-}
+stuckBoard =
+    changed (idleBoard 1 1 0 (replicate 64 0))
+    (record { weight = ceiling; countdown = 0; state = Active; suspended = true } ∷ replicate 63 blankUnit)
+    (message Request 0 0 0 ∷ replicate 255 blankSlot)
+    ceiling
 
 pub record Stuck (b : Board) : Type 0 where
   pub is-sound : Sound b

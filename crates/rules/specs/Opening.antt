@@ -22,29 +22,17 @@ openingChecks m d ps =
     ∷ check (holds (lowerParents ps)) 12
     ∷ []
 
--- "The fresh board has debt 0, all idle and empty"; n is the number of parents plus 1
+-- a board of these sizes and parents with debt 0, "all idle and empty"
+abbrev pub idleBoard : ℕ → ℕ → ℕ → List ℕ → Board
+idleBoard n m d parents = record { n = n; m = m; delay = d; debt = 0; parents = parents; units = replicate 64 blankUnit; slots = replicate 256 blankSlot }
+
+-- the fresh board; n is the number of parents plus 1
 unfoldable pub fresh : ℕ → ℕ → List ℕ → Board
-fresh m d ps = record {
-  n = suc (length ps);
-  m = m;
-  delay = d;
-  debt = 0;
-  parents = 0 ∷ ps ++ replicate (63 - length ps) 0;
-  units = replicate 64 blankUnit;
-  slots = replicate 256 blankSlot;
-}
+fresh m d ps = idleBoard (suc (length ps)) m d (0 ∷ ps ++ replicate (63 - length ps) 0)
 
 -- "a blank board with n = 0", what a refused opening hands back
 unfoldable pub blankBoard : Board
-blankBoard = record {
-  n = 0;
-  m = 0;
-  delay = 0;
-  debt = 0;
-  parents = replicate 64 0;
-  units = replicate 64 blankUnit;
-  slots = replicate 256 blankSlot;
-}
+blankBoard = idleBoard 0 0 0 (replicate 64 0)
 
 abbrev pub refusedBy : ℕ → Outcome
 refusedBy k = record { answer = k; board = blankBoard }

@@ -11,7 +11,7 @@ use Rattle.rules.specs.declared.Board.{Board}
 use Rattle.rules.specs.declared.StepRecord.{StepRecord}
 use Rattle.rules.specs.declared.Outcome.{Outcome}
 use Rattle.rules.proofs.Changes.{refused-applied}
-use Rattle.rules.proofs.SoundLaws.{sound-claims, unit-weight, weights-fit}
+use Rattle.rules.proofs.SoundLaws.{sound-claims, weights-fit}
 use Rattle.rules.specs.declared.Change.{Change}
 use Rattle.steps.specs.WeightsFit.{WeightsFit}
 use Rattle.steps.specs.Changing.{slotPlace, unitPlace, changeAt}
@@ -22,8 +22,8 @@ module _ (b : Board) (r : StepRecord) (h : Sound b) (u s : ℕ) (slot-is : s ≡
   pub place-weights : WeightsFit (b .debt) (unitAt b u) (slotAt b s) (actionOf (r .kind))
   place-weights = record {
     most = h .s5-s6-debt .1 .0;
-    unit = omega (arith, unit-weight b h u (omega arith), h .s5-s6-debt);
-    delivered = λ e. weights-fit b h u s (omega arith) (omega arith);
+    unit = omega (arith, weights-fit b h u s);
+    delivered = λ e. weights-fit b h u s;
   }
 
   pub stored-step : (c : Change) → c ≡ changeAt true (b .n) (b .m) (b .debt) (b .delay) r (unitAt b u) (parentAt b u) (slotAt b s) → stored b u s c ≡ soundStep b r

@@ -18,7 +18,7 @@ use Rattle.rules.specs.declared.Effect.{Effect}
 use Rattle.rules.specs.declared.Effect.the-variants.{Refused}
 use Rattle.rules.specs.declared.Board.{Board}
 use Rattle.rules.specs.declared.StepRecord.{StepRecord}
-use Rattle.rules.proofs.FactLaws.{asked}
+use Rattle.rules.proofs.FactLaws.{asked, fact-shown}
 use Rattle.rules.proofs.SoundLaws.{slot-row, parent-below}
 use Rattle.rules.proofs.JudgeLaws.{judge-by-number, judge-map, judge-same}
 use Rattle.rules.proofs.Changes.{refused-applied}
@@ -57,7 +57,7 @@ module _ (b : Board) (h : Sound b) where
   within r Start p = omega arith
   within r Send p = omega arith
   within r RequestStep p = omega arith
-  within r Deliver p = omega (arith, receiver-in-use (r .slot) (p .0))
+  within r Deliver p = omega (arith, receiver-in-use (r .slot) (fact-shown 14 (placesOn b r Deliver) p))
   within r Rest p = omega arith
   within r Tick p = omega arith
   within r Release p = omega arith
