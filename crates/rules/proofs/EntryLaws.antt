@@ -65,9 +65,9 @@ suspended-active b h i l e = by-state (unitAt b i .state) refl
     by-state Active q = q
     by-state Waiting q = let z : unitAt b i .suspended ≡ false = unit-row-as b h i Waiting l q .1 .1 .0 in cc
 
-pub pending-suspended : (b : Board) → Sound b → (s i : ℕ) → s < b .m → i < b .n → pendingIn i (slotAt b s) (slotAt b s .kind) ≡ 1 → unitAt b i .suspended ≡ true
+pub pending-suspended : (b : Board) → Sound b → (s i : ℕ) → i < b .n → pendingIn i (slotAt b s) (slotAt b s .kind) ≡ 1 → unitAt b i .suspended ≡ true
 unfolding pending
-pending-suspended b h s i l p e =
+pending-suspended b h s i p e =
     by-flag (unitAt b i .suspended) (omega (arith, sum-part (λ j y. pendingIn i y (y .kind)) (b .slots) s blankSlot (λ k. refl), pending-row b h i (omega (arith, h .s1-sizes, p)), e))
   where
     by-flag : (t : Bool) → 1 ≤ oneIf t → t ≡ true

@@ -52,7 +52,7 @@ module _ (b : Board) (h : Sound b) where
       by-kind Return q = absurd (omega (arith, slot-row-as b h j Return l q, none))
       by-kind Request q =
           let row = slot-row-as b h j Request l q in
-          let active = suspended-active b h (slotAt b j .from) (row .0) (pending-suspended b h j (slotAt b j .from) l (row .0) (pending-as _ (slotAt b j) Request q ∙ ap oneIf (eq-eqb (slotAt b j .from) (slotAt b j .from) refl))) in
+          let active = suspended-active b h (slotAt b j .from) (row .0) (pending-suspended b h j (slotAt b j .from) (row .0) (pending-as _ (slotAt b j) Request q ∙ ap oneIf (eq-eqb (slotAt b j .from) (slotAt b j .from) refl))) in
           let idle = idle-at-zero b h e (slotAt b j .from) (row .0) in
           cc
       by-kind Supply q = absurd (omega (arith, slot-row-as b h j Supply l q, none))

@@ -109,16 +109,16 @@ module _ (b : Board) (h : Sound b) (q : Quiet b) where
   pub not-work : (j : ℕ) → slotAt b j .kind ≡ Work → ⊥
   not-work j e = true-not-false (sym (ap isWork e) ∙ q .no-work j)
 
-  not-pending : (s i : ℕ) → s < b .m → i < b .n → pendingIn i (slotAt b s) (slotAt b s .kind) ≡ 1 → ⊥
-  not-pending s i l k e = not-active i (suspended-active b h i k (pending-suspended b h s i l k e))
+  not-pending : (s i : ℕ) → i < b .n → pendingIn i (slotAt b s) (slotAt b s .kind) ≡ 1 → ⊥
+  not-pending s i k e = not-active i (suspended-active b h i k (pending-suspended b h s i k e))
 
   pub not-request : (s : ℕ) → s < b .m → slotAt b s .kind ≡ Request → ⊥
   not-request s l e =
-      not-pending s (slotAt b s .from) l (slot-row-as b h s Request l e .0) (pending-as _ (slotAt b s) Request e ∙ ap oneIf (eq-eqb (slotAt b s .from) (slotAt b s .from) refl))
+      not-pending s (slotAt b s .from) (slot-row-as b h s Request l e .0) (pending-as _ (slotAt b s) Request e ∙ ap oneIf (eq-eqb (slotAt b s .from) (slotAt b s .from) refl))
 
   pub not-supply : (s : ℕ) → s < b .m → slotAt b s .kind ≡ Supply → ⊥
   not-supply s l e =
-      not-pending s (slotAt b s .to) l (slot-row-as b h s Supply l e .1 .0) (pending-as _ (slotAt b s) Supply e ∙ ap oneIf (eq-eqb (slotAt b s .to) (slotAt b s .to) refl))
+      not-pending s (slotAt b s .to) (slot-row-as b h s Supply l e .1 .0) (pending-as _ (slotAt b s) Supply e ∙ ap oneIf (eq-eqb (slotAt b s .to) (slotAt b s .to) refl))
 
   worth-as : (i : ℕ) (k : State) → unitAt b i .state ≡ k → worthOf i (unitAt b i) ≡ unitWorth (b .delay) (b .parents) i (unitAt b i) k
   worth-as i k e = ap (unitWorth (b .delay) (b .parents) i (unitAt b i)) e

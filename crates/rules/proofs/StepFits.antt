@@ -146,7 +146,7 @@ module _ (b : Board) (r : StepRecord) (h : Sound b) where
     supply-fits e =
         let row = slot-row-as b h (r .slot) Supply used e in
         let here : pendingIn (y .to) y (y .kind) ≡ 1 = pending-as (y .to) y Supply e ∙ ap oneIf (eq-eqb (y .to) (y .to) refl) in
-        let suspended = pending-suspended b h (r .slot) (y .to) used (row .1 .0) here in
+        let suspended = pending-suspended b h (r .slot) (y .to) (row .1 .0) here in
         let active = suspended-active b h (y .to) (row .1 .0) suspended in
         emptied (supplied x (y .weight)) (row .1 .0) (state-row (b .delay) (y .to) (supplied x (y .weight)) Active active (omega (arith, row, unit-row-as b h (y .to) Active (row .1 .0) active)))
         (omega (arith, here, ap oneIf suspended)) (λ i n. sym (pending-as i y Supply e ∙ ap oneIf (ne-eqb (y .to) i (λ q. n (sym q))))) refl
