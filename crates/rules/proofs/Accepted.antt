@@ -1,12 +1,15 @@
 -- What an accepted step tells: the board was sound, every check of the step's bracket held, and the board after it.
 use mathlib.Core.Path.{_≡_, refl, sym, ap, _∙_}
 use mathlib.Core.Bool.{Bool, true, false, cond}
+use mathlib.Core.List.{List, [], _∷_}
 use Prim.Native.Nat.{ℕ, _≤_}
 use native.Mathlib.Omega.{arith}
-use Rattle.rules.specs.Facts.{Claims}
+use Rattle.rules.specs.Facts.{Claims, Check}
 use Rattle.rules.specs.Words.{parentAt, unitAt, slotAt}
 use Rattle.rules.specs.Sound.{Sound, sound}
-use Rattle.rules.specs.Steps.{actionOf, unitOf, slotOf, placeChecks, grantFits, recordChecks, recordEffect, recordRule, effectBy, effect, applied, soundStep, step}
+use Rattle.rules.specs.Actions.{actionOf}
+use Rattle.rules.specs.Letters.{Place, amongUnits, amongSlots, Letter, letters, read, placeCheck, checksOf, placeChecks, slotOf}
+use Rattle.rules.specs.Steps.{unitOf, grantFits, recordChecks, recordEffect, recordRule, effectBy, effect, applied, soundStep, step}
 use Rattle.rules.proofs.JudgeLaws.{Numbered, Judged, passed, failed, judged}
 use Rattle.rules.proofs.FactLaws.{asked, judge-passed}
 use Rattle.rules.proofs.SoundLaws.{sound-claims, sound-tested}
@@ -24,14 +27,15 @@ use Rattle.rules.specs.declared.Outcome.{Outcome}
 
 -- ---- every check of a step has a number
 pub place-numbered : (n m : ℕ) (r : StepRecord) (a : Action) → Numbered (placeChecks n m r a)
-place-numbered n m r Unknown = tt
-place-numbered n m r Start = omega arith
-place-numbered n m r Send = omega arith
-place-numbered n m r RequestStep = omega arith
-place-numbered n m r Deliver = omega arith
-place-numbered n m r Rest = omega arith
-place-numbered n m r Tick = omega arith
-place-numbered n m r Release = omega arith
+place-numbered n m r a = of-letters (letters a)
+  where
+    of-place : (i : ℕ) (p : Place) (cs : List Check) → Numbered cs → Numbered (placeCheck n m i p ∷ cs)
+    of-place i amongUnits cs h = (omega arith, h)
+    of-place i amongSlots cs h = (omega arith, h)
+
+    of-letters : (ls : List Letter) → Numbered (checksOf n m r ls)
+    of-letters [] = tt
+    of-letters (l ∷ ls) = of-place (read r (l .field)) (l .place) (checksOf n m r ls) (of-letters ls)
 
 grant-numbered : (debt : ℕ) (k : Kind) → Numbered (grantFits debt k)
 grant-numbered debt Empty = tt

@@ -9,7 +9,9 @@ use lib.Dec.{eqb}
 use lib.Seq.{getD-set-same}
 use Rattle.rules.specs.Words.{isActive, isEmpty, isRequest, blankUnit, blankSlot, parentAt, unitAt, slotAt}
 use Rattle.rules.specs.Sound.{Sound}
-use Rattle.rules.specs.Steps.{waitingWith, returned, unitOf, slotOf, deliverEffect, recordEffect, applied, actionOf}
+use Rattle.rules.specs.Actions.{actionOf}
+use Rattle.rules.specs.Letters.{slotOf}
+use Rattle.rules.specs.Steps.{waitingWith, returned, unitOf, deliverEffect, recordEffect, applied}
 use Rattle.rules.specs.Guarantee.{AcceptedChanges}
 use Rattle.rules.proofs.FactLaws.{true-not-false}
 use Rattle.rules.proofs.Accepted.{AcceptedAs, accepted-sound, accepted-as}

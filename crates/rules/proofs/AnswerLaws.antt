@@ -7,7 +7,9 @@ use lib.Dec.{eqb}
 use Rattle.rules.specs.Facts.{judge}
 use Rattle.rules.specs.Words.{parentAt, unitAt, slotAt}
 use Rattle.rules.specs.Sound.{sound}
-use Rattle.rules.specs.Steps.{deliverEffect, actionOf, unitOf, slotOf, placeChecks, recordChecks, recordEffect, recordRule, effectBy, effect, applied, soundStep, step}
+use Rattle.rules.specs.Actions.{actionOf}
+use Rattle.rules.specs.Letters.{slotOf, placeChecks}
+use Rattle.rules.specs.Steps.{deliverEffect, unitOf, recordChecks, recordEffect, recordRule, effectBy, effect, applied, soundStep, step}
 use Rattle.rules.proofs.FactLaws.{judge-passed}
 use Rattle.rules.proofs.Accepted.{place-numbered, record-numbered}
 use Rattle.rules.proofs.JudgeLaws.{Judged, passed, failed, judged}

@@ -13,7 +13,8 @@ use Rattle.rules.specs.Words.{isActive, isWaiting, isWork, unitAt, slotA
 use Rattle.rules.specs.Sound.{pending, unitsWeight, slotsWeight, Sound, sound}
 use Rattle.rules.specs.Depths.{depthWithin, depth, deepest}
 use Rattle.rules.specs.Opening.{lowerParents, fresh, blankBoard, opening}
-use Rattle.rules.specs.Steps.{share, grantFits, actionOf, recordRule, effect, applied, soundStep, step}
+use Rattle.rules.specs.Actions.{actionOf}
+use Rattle.rules.specs.Steps.{share, grantFits, recordRule, effect, applied, soundStep, step}
 use Rattle.rules.specs.Lists.{after, answers, startBy}
 use Rattle.rules.specs.Finished.{toldFrom}
 use Rattle.rules.specs.Drains.{Quiet, Drain, waitingUnits, returnsUnderWay, drainBound}

@@ -1,15 +1,20 @@
--- "Fields that its kind has no letter for are not read": a step is the step with those fields 0.
+-- The letters of a step: their values, the numbers of their checks; a step is the step with the fields 0 that its kind has no letter for.
 use mathlib.Core.Path.{_≡_, refl, sym, ap, _∙_}
 use mathlib.Core.Bool.{cond}
-use Prim.Native.Nat.{ℕ}
+use mathlib.Core.List.{List, [], _∷_}
+use Prim.Native.Nat.{ℕ, suc, _≤_, _<_, _^_}
+use native.Mathlib.Omega.{arith}
+use lib.ListN.{length, getD}
 use Rattle.rules.specs.Sound.{sound}
-use Rattle.rules.specs.Steps.{actionOf, unitOf, slotOf, recordRule, effectBy, effect, applied, soundStep, step}
+use Rattle.rules.specs.Actions.{actionOf}
+use Rattle.rules.specs.Letters.{Field, unitField, otherField, slotField, Letter, letters, read, put, valuesOf, recordFrom, usedFields, used, slotOf}
+use Rattle.rules.specs.Guarantee.{Fits16}
+use Rattle.rules.specs.Steps.{unitOf, recordRule, effectBy, effect, applied, soundStep, step}
 use Rattle.rules.specs.declared.Action.{Action}
 use Rattle.rules.specs.declared.Action.the-variants.{Unknown, Start, Send, Request, Deliver, Rest, Tick, Release}
 use Rattle.rules.specs.declared.Board.{Board}
 use Rattle.rules.specs.declared.StepRecord.{StepRecord}
 use Rattle.rules.specs.declared.Outcome.{Outcome}
-use Rattle.rules.specs.Letters.{usedFields, used}
 
 -- the step by the action, whatever the record's kind
 abbrev stepBy : Board → StepRecord → Action → Outcome
@@ -26,15 +31,17 @@ by-action b r Rest = refl
 by-action b r Tick = refl
 by-action b r Release = refl
 
-pub kind-used : (r : StepRecord) (a : Action) → usedFields r a .kind ≡ r .kind
-kind-used r Unknown = refl
-kind-used r Start = refl
-kind-used r Send = refl
-kind-used r Request = refl
-kind-used r Deliver = refl
-kind-used r Rest = refl
-kind-used r Tick = refl
-kind-used r Release = refl
+record-kind : (k i : ℕ) (ls : List Letter) (xs : List ℕ) → recordFrom k i ls xs .kind ≡ k
+record-kind k i [] xs = refl
+record-kind k i (l ∷ ls) xs = put-kind (recordFrom k (suc i) ls xs) (l .field) (getD xs i 0) ∙ record-kind k (suc i) ls xs
+  where
+    put-kind : (r : StepRecord) (f : Field) (x : ℕ) → put r f x .kind ≡ r .kind
+    put-kind r unitField x = refl
+    put-kind r otherField x = refl
+    put-kind r slotField x = refl
+
+kind-used : (r : StepRecord) (a : Action) → usedFields r a .kind ≡ r .kind
+kind-used r a = record-kind (r .kind) 0 (letters a) (valuesOf r (letters a))
 
 pub sound-step-used : (b : Board) (r : StepRecord) → soundStep b r ≡ soundStep b (used r)
 unfolding soundStep effect used
@@ -43,3 +50,23 @@ sound-step-used b r = by-action b r (actionOf (r .kind)) ∙ ap (λ (k : ℕ). s
 pub step-used : (b : Board) (r : StepRecord) → step b r ≡ step b (used r)
 unfolding step
 step-used b r = ap (λ (o : Outcome). cond (sound b) o (record { answer = 30; board = b })) (sound-step-used b r)
+
+-- ---- a value for each letter, which is a field's
+pub values-length : (r : StepRecord) (ls : List Letter) → length (valuesOf r ls) ≡ length ls
+values-length r [] = refl
+values-length r (l ∷ ls) = ap suc (values-length r ls)
+
+pub letters-three : (a : Action) → length (letters a) ≤ 3
+letters-three Unknown = omega arith
+letters-three Start = omega arith
+letters-three Send = omega arith
+letters-three Request = omega arith
+letters-three Deliver = omega arith
+letters-three Rest = omega arith
+letters-three Tick = omega arith
+letters-three Release = omega arith
+
+pub read-fits : (r : StepRecord) → Fits16 r → (f : Field) → read r f < 2 ^ 16
+read-fits r h unitField = h .unit
+read-fits r h otherField = h .other
+read-fits r h slotField = h .slot

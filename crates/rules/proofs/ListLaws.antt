@@ -8,8 +8,10 @@ use lib.Dec.{eqb}
 use borrow.Author.Tests.{eqb-true, eqb-false}
 use Rattle.rules.specs.Words.{isReturn, parentAt, unitAt, slotAt, grant, blankUnit, blankSlot}
 use Rattle.rules.specs.Sound.{Sound, sound}
-use Rattle.rules.specs.Steps.{actionOf, unitOf, slotOf, waitingWith, returned, deliverEffect, recordEffect, effect, applied, soundStep, step}
-use Rattle.rules.specs.Lists.{after, accepted, tally, startBy, startCount, grantBy, grantCount, takenBy, takenCount}
+use Rattle.rules.specs.Actions.{actionOf}
+use Rattle.rules.specs.Letters.{slotOf}
+use Rattle.rules.specs.Steps.{unitOf, waitingWith, returned, deliverEffect, recordEffect, effect, applied, soundStep, step}
+use Rattle.rules.specs.Lists.{after, accepted, tally, startBy, startCount, grantBy, grantCount, restTaken, takenBy, takenCount}
 use Rattle.rules.proofs.SoundLaws.{unit-weight, slot-weight}
 use Rattle.rules.proofs.Accepted.{AcceptedAs, accepted-as}
 use Rattle.rules.proofs.StepFits.{accepted-keeps-sound}
@@ -80,19 +82,19 @@ module _ (b : Board) (r : StepRecord) (h : Sound b) where
   deliver-account c Request e = omega arith
   deliver-account c Supply e = omega arith
 
-  rest-account : (c : AcceptedAs b r Rest) → applied b (r .unit) 0 (recordEffect (b .debt) (b .delay) r (unitAt b (r .unit)) (parentAt b (r .unit)) (slotAt b 0) Rest) .board .debt + takenBy b r Rest ≡ b .debt
+  rest-account : (c : AcceptedAs b r Rest) → applied b (r .unit) 0 (recordEffect (b .debt) (b .delay) r (unitAt b (r .unit)) (parentAt b (r .unit)) (slotAt b 0) Rest) .board .debt + restTaken (r .unit) (unitAt b (r .unit)) ≡ b .debt
   unfolding applied
   rest-account c = by-unit (eqb (r .unit) 0) refl
     where
       part : unitAt b (r .unit) .weight ≤ b .debt
       part = omega (arith, unit-weight b h (r .unit) (omega (arith, h .s1-sizes, c .places)), h .s5-s6-debt)
 
-      by-unit : (t : Bool) → eqb (r .unit) 0 ≡ t → applied b (r .unit) 0 (cond t (OnUnit blankUnit (b .debt - unitAt b (r .unit) .weight)) (OnUnit (waitingWith (unitAt b (r .unit) .weight) (b .delay)) (b .debt))) .board .debt + cond t (unitAt b 0 .weight) 0 ≡ b .debt
-      by-unit true e = omega (arith, part, ap (λ (i : ℕ). unitAt b i .weight) (eqb-true (r .unit) 0 e))
+      by-unit : (t : Bool) → eqb (r .unit) 0 ≡ t → applied b (r .unit) 0 (cond t (OnUnit blankUnit (b .debt - unitAt b (r .unit) .weight)) (OnUnit (waitingWith (unitAt b (r .unit) .weight) (b .delay)) (b .debt))) .board .debt + cond t (unitAt b (r .unit) .weight) 0 ≡ b .debt
+      by-unit true e = omega (arith, part)
       by-unit false e = omega arith
 
   account-as : (a : Action) → AcceptedAs b r a
-      → applied b (unitOf b r a) (slotOf r a) (recordEffect (b .debt) (b .delay) r (unitAt b (unitOf b r a)) (parentAt b (unitOf b r a)) (slotAt b (slotOf r a)) a) .board .debt + takenBy b r a
+      → applied b (unitOf b r a) (slotOf r a) (recordEffect (b .debt) (b .delay) r (unitAt b (unitOf b r a)) (parentAt b (unitOf b r a)) (slotAt b (slotOf r a)) a) .board .debt + takenBy (r .unit) (unitAt b (r .unit)) (slotAt b (r .slot)) a
       ≡ b .debt + grant * (startBy a + grantBy (slotAt b (r .slot)) a)
   unfolding applied
   account-as Unknown c = omega arith

@@ -14,7 +14,9 @@ use Rattle.rules.specs.Facts.{sumOf, oneIf}
 use Rattle.rules.specs.Words.{isIdle, isEmpty, isActive, isWaiting, isWork, isReturn, parentAt, unitAt, slotAt, blankUnit, blankSlot}
 use Rattle.rules.specs.Sound.{pendingIn, Sound}
 use Rattle.rules.specs.Depths.{depth, greatestDepth}
-use Rattle.rules.specs.Steps.{message, waitingWith, returned, actionOf, unitOf, slotOf, returnEffect, deliverEffect, tickEffect, releaseEffect, recordEffect, changed, applied, step}
+use Rattle.rules.specs.Actions.{actionOf}
+use Rattle.rules.specs.Letters.{slotOf}
+use Rattle.rules.specs.Steps.{message, waitingWith, returned, unitOf, returnEffect, deliverEffect, tickEffect, releaseEffect, recordEffect, changed, applied, step}
 use Rattle.rules.specs.Lists.{startBy}
 use Rattle.rules.specs.Drains.{Quiet, DrainStep, waitingUnits, returnsUnderWay, drainBound}
 use Rattle.rules.proofs.FactLaws.{true-not-false}

@@ -9,7 +9,8 @@ use borrow.Author.Tests.{leb-true, eqb-false, eq-eqb, ne-eqb}
 use Rattle.rules.specs.Facts.{Claims, oneIf}
 use Rattle.rules.specs.Words.{isActive, isWaiting, isEmpty, parentAt, unitAt, slotAt, grant, ceiling, blankUnit, blankSlot}
 use Rattle.rules.specs.Sound.{stateRow, kindRow, pendingIn, pending, Sound}
-use Rattle.rules.specs.Steps.{share, shared, grantFits, message, returned, waitingWith, worked, supplied, unitOf, slotOf, deliverEffect, returnEffect, restEffect, recordEffect, step}
+use Rattle.rules.specs.Letters.{slotOf}
+use Rattle.rules.specs.Steps.{share, shared, grantFits, message, returned, waitingWith, worked, supplied, unitOf, deliverEffect, returnEffect, restEffect, recordEffect, step}
 use Rattle.rules.proofs.FactLaws.{asked}
 use Rattle.rules.proofs.SumLaws.{sum-part}
 use Rattle.rules.proofs.SoundLaws.{parent-below, unit-row, slot-row, pending-row, unit-weight, slot-weight}

@@ -4,8 +4,9 @@ pub mod Words
 pub mod Sound
 pub mod Opening
 pub mod Depths
-pub mod Steps
+pub mod Actions
 pub mod Letters
+pub mod Steps
 pub mod Lists
 pub mod Finished
 pub mod Drains

@@ -5,9 +5,11 @@ use Prim.Native.Nat.{ℕ, _+_}
 use lib.Dec.{eqb}
 use Rattle.rules.specs.Facts.{oneIf}
 use Rattle.rules.specs.Words.{isReturn, isRequest, unitAt, slotAt}
-use Rattle.rules.specs.Steps.{actionOf, step}
+use Rattle.rules.specs.Actions.{actionOf, isAction}
+use Rattle.rules.specs.Steps.{step}
 use Rattle.rules.specs.declared.Action.{Action}
-use Rattle.rules.specs.declared.Action.the-variants.{Unknown, Start, Send, Request, Deliver, Rest, Tick, Release}
+use Rattle.rules.specs.declared.Action.the-variants.{Start, Deliver, Rest}
+use Rattle.rules.specs.declared.UnitRecord.{UnitRecord}
 use Rattle.rules.specs.declared.Slot.{Slot}
 use Rattle.rules.specs.declared.Board.{Board}
 use Rattle.rules.specs.declared.StepRecord.{StepRecord}
@@ -32,42 +34,27 @@ tally count b (r ∷ rs) = cond (accepted b r) (count b r) 0 + tally count (step
 
 -- 1 for a start
 abbrev pub startBy : Action → ℕ
-startBy Unknown = 0
-startBy Start = 1
-startBy Send = 0
-startBy Request = 0
-startBy Deliver = 0
-startBy Rest = 0
-startBy Tick = 0
-startBy Release = 0
+startBy a = oneIf (isAction Start a)
 
 abbrev pub startCount : Board → StepRecord → ℕ
 startCount b r = startBy (actionOf (r .kind))
 
 -- 1 for a granted request: the delivery of a slot that holds a request
 abbrev pub grantBy : Slot → Action → ℕ
-grantBy y Unknown = 0
-grantBy y Start = 0
-grantBy y Send = 0
-grantBy y Request = 0
-grantBy y Deliver = oneIf (isRequest (y .kind))
-grantBy y Rest = 0
-grantBy y Tick = 0
-grantBy y Release = 0
+grantBy y a = oneIf (isAction Deliver a && isRequest (y .kind))
 
 abbrev pub grantCount : Board → StepRecord → ℕ
 grantCount b r = grantBy (slotAt b (r .slot)) (actionOf (r .kind))
 
--- what unit 0 takes back: the weight of a return that a delivery brings it, and its own weight at its rest
-abbrev pub takenBy : Board → StepRecord → Action → ℕ
-takenBy b r Unknown = 0
-takenBy b r Start = 0
-takenBy b r Send = 0
-takenBy b r Request = 0
-takenBy b r Deliver = cond (isReturn (slotAt b (r .slot) .kind) && eqb (slotAt b (r .slot) .to) 0) (slotAt b (r .slot) .weight) 0
-takenBy b r Rest = cond (eqb (r .unit) 0) (unitAt b 0 .weight) 0
-takenBy b r Tick = 0
-takenBy b r Release = 0
+-- what unit 0 takes back: the weight of a return that a delivery brings it, and the weight of a unit that rests where that is unit 0
+abbrev pub returnTaken : Slot → ℕ
+returnTaken y = cond (isReturn (y .kind) && eqb (y .to) 0) (y .weight) 0
+
+abbrev pub restTaken : ℕ → UnitRecord → ℕ
+restTaken u x = cond (eqb u 0) (x .weight) 0
+
+abbrev pub takenBy : ℕ → UnitRecord → Slot → Action → ℕ
+takenBy u x y a = cond (isAction Deliver a) (returnTaken y) (cond (isAction Rest a) (restTaken u x) 0)
 
 abbrev pub takenCount : Board → StepRecord → ℕ
-takenCount b r = takenBy b r (actionOf (r .kind))
+takenCount b r = takenBy (r .unit) (unitAt b (r .unit)) (slotAt b (r .slot)) (actionOf (r .kind))

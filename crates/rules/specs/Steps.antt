@@ -2,11 +2,13 @@
 use mathlib.Core.Bool.{true, false, cond}
 use mathlib.Core.List.{List, [], _∷_}
 use Prim.Native.Nat.{ℕ, _+_, _-_, _/_}
-use lib.ListN.{getD, set}
+use lib.ListN.{set}
 use lib.Dec.{leb, eqb}
-use Rattle.rules.specs.Facts.{Check, check, below, atMost, equal, holds, fails, judge}
+use Rattle.rules.specs.Facts.{Check, check, atMost, equal, holds, fails, judge}
 use Rattle.rules.specs.Words.{isActive, isWaiting, isEmpty, blankUnit, blankSlot, parentAt, unitAt, slotAt, grant, ceiling}
 use Rattle.rules.specs.Sound.{sound}
+use Rattle.rules.specs.Actions.{actionOf}
+use Rattle.rules.specs.Letters.{placeChecks, slotOf, unitBy}
 use Rattle.rules.specs.declared.State.{State}
 use Rattle.rules.specs.declared.State.the-variants.{Idle, Active, Waiting}
 use Rattle.rules.specs.declared.Kind.{Kind}
@@ -134,44 +136,9 @@ releaseChecks x y =
 abbrev pub releaseEffect : ℕ → ℕ → ℕ → UnitRecord → Effect
 releaseEffect debt u p x = OnBoth blankUnit (message Return u p (x .weight)) debt
 
--- a step record's kind, 1 to 7 in the order above
-abbrev pub actionOf : ℕ → Action
-actionOf k = getD (Unknown ∷ Start ∷ Send ∷ RequestStep ∷ Deliver ∷ Rest ∷ Tick ∷ Release ∷ []) k Unknown
-
--- the slot and the unit that a step may change; a delivery's unit is the receiver `to` that its slot names
-abbrev pub slotOf : StepRecord → Action → ℕ
-slotOf r Unknown = 0
-slotOf r Start = 0
-slotOf r Send = r .slot
-slotOf r RequestStep = r .slot
-slotOf r Deliver = r .slot
-slotOf r Rest = 0
-slotOf r Tick = 0
-slotOf r Release = r .slot
-
-abbrev pub unitBy : StepRecord → ℕ → Action → ℕ
-unitBy r to Unknown = 0
-unitBy r to Start = r .unit
-unitBy r to Send = r .unit
-unitBy r to RequestStep = r .unit
-unitBy r to Deliver = to
-unitBy r to Rest = r .unit
-unitBy r to Tick = r .unit
-unitBy r to Release = r .unit
-
+-- the unit that a step may change: a delivery's is the receiver that its slot names
 abbrev pub unitOf : Board → StepRecord → Action → ℕ
 unitOf b r a = unitBy r (slotAt b (slotOf r a) .to) a
-
--- the head of each bracket: 13 unit not below n, 14 slot not below M, for the letters that the kind has
-abbrev pub placeChecks : ℕ → ℕ → StepRecord → Action → List Check
-placeChecks n m r Unknown = []
-placeChecks n m r Start = check (below (r .unit) n) 13 ∷ []
-placeChecks n m r Send = check (below (r .unit) n) 13 ∷ check (below (r .other) n) 13 ∷ check (below (r .slot) m) 14 ∷ []
-placeChecks n m r RequestStep = check (below (r .unit) n) 13 ∷ check (below (r .slot) m) 14 ∷ []
-placeChecks n m r Deliver = check (below (r .slot) m) 14 ∷ []
-placeChecks n m r Rest = check (below (r .unit) n) 13 ∷ []
-placeChecks n m r Tick = check (below (r .unit) n) 13 ∷ []
-placeChecks n m r Release = check (below (r .unit) n) 13 ∷ check (below (r .slot) m) 14 ∷ []
 
 -- the rest of each bracket, on the records that the step may change: the unit x and the slot y. 16 kind outside 1 to 7, which no board passes
 abbrev pub recordChecks : ℕ → UnitRecord → Slot → Action → List Check

@@ -57,7 +57,10 @@ pub struct StepRecord {
     pub slot: u16, // s: the slot to fill, or to deliver
 }
 
-// A step's kind by name; Unknown stands for every number outside 1 to 7.
+// How many kinds of step there are.
+pub const KINDS: u16 = 7;
+
+// A step's kind by name; Unknown stands for every number outside 1 to KINDS.
 pub enum Action {
     Unknown,
     Start,

@@ -10,42 +10,36 @@ use Rattle.placing.specs.Placing.{Writes}
 use Rattle.placing.specs.declared.Wrote.{Wrote}
 use Rattle.placing.specs.declared.Wrote.the-variants.{Refused}
 use Rattle.placing.proofs.Stores.{sets-append}
-use Rattle.rules.specs.Steps.{actionOf}
-use Rattle.rules.specs.Letters.{isKnown}
+use Rattle.rules.specs.Actions.{kinds, actionOf, isKnown}
+use Rattle.rules.specs.Letters.{Letter, letters, valuesOf}
 use Rattle.rules.specs.Guarantee.{Fits16}
 use Rattle.rules.specs.declared.Action.{Action}
-use Rattle.rules.specs.declared.Action.the-variants.{Unknown, Start, Send, Request, Deliver, Rest, Tick, Release}
 use Rattle.rules.specs.declared.StepRecord.{StepRecord}
+use Rattle.rules.proofs.LetterLaws.{values-length, letters-three, read-fits}
 use Rattle.script.specs.Words.{words}
 use Rattle.script.specs.Writing.{lettersOf, tabbed, stepLine, stepText, stepWrote, stepWritten}
 use Rattle.script.proofs.KindLaws.{by-kind}
 use Rattle.script.proofs.TabLaws.{Small, tabbed-length}
 
--- the rows: a step has at most three letters, and each is small
-letters-rows : (r : StepRecord) (a : Action) → r .unit ≤ 65535 → r .other ≤ 65535 → r .slot ≤ 65535 → Small (lettersOf r a) × (length (lettersOf r a) ≤ 3)
-letters-rows r Unknown u v s = (tt, omega arith)
-letters-rows r Start u v s = ((u, tt), omega arith)
-letters-rows r Send u v s = ((u, (v, (s, tt))), omega arith)
-letters-rows r Request u v s = ((u, (s, tt)), omega arith)
-letters-rows r Deliver u v s = ((s, tt), omega arith)
-letters-rows r Rest u v s = ((u, tt), omega arith)
-letters-rows r Tick u v s = ((u, tt), omega arith)
-letters-rows r Release u v s = ((u, (s, tt)), omega arith)
-
-letters-few : (r : StepRecord) (a : Action) → Fits16 r → Small (lettersOf r a) × (length (lettersOf r a) ≤ 3)
-letters-few r a h = letters-rows r a (omega (arith, h .unit)) (omega (arith, h .other)) (omega (arith, h .slot))
-
+-- a step has at most three letters, and each is small
 pub letters-small : (r : StepRecord) (a : Action) → Fits16 r → Small (lettersOf r a)
-letters-small r a h = letters-few r a h .0
+letters-small r a h = each-small (letters a)
+  where
+    each-small : (ls : List Letter) → Small (valuesOf r ls)
+    each-small [] = tt
+    each-small (l ∷ ls) = (omega (arith, read-fits r h (l .field)), each-small ls)
 
-word-short : (k : ℕ) → 1 ≤ k → k ≤ 7 → length (getD words k []) ≤ 7
+letters-few : (r : StepRecord) (a : Action) → length (lettersOf r a) ≤ 3
+letters-few r a = omega (arith, values-length r (letters a), letters-three a)
+
+word-short : (k : ℕ) → 1 ≤ k → k ≤ kinds → length (getD words k []) ≤ 7
 word-short = by-kind (λ k. length (getD words k []) ≤ 7) (omega arith) (omega arith) (omega arith) (omega arith) (omega arith) (omega arith) (omega arith)
 
-pub line-short : (r : StepRecord) → 1 ≤ r .kind → r .kind ≤ 7 → Fits16 r → length (stepLine r) ≤ 25
+pub line-short : (r : StepRecord) → 1 ≤ r .kind → r .kind ≤ kinds → Fits16 r → length (stepLine r) ≤ 25
 unfolding stepLine
 line-short r l u h =
     let ns : List ℕ = lettersOf r (actionOf (r .kind)) in
-    omega (arith, length-append (getD words (r .kind) []) (tabbed ns), word-short (r .kind) l u, tabbed-length ns (letters-small r (actionOf (r .kind)) h), letters-few r (actionOf (r .kind)) h .1)
+    omega (arith, length-append (getD words (r .kind) []) (tabbed ns), word-short (r .kind) l u, tabbed-length ns (letters-small r (actionOf (r .kind)) h), letters-few r (actionOf (r .kind)))
 
 -- ---- a step's line put together in a blank buffer: its word, its letters behind it, and byte 10
 module _ (r : StepRecord) (blank : List ℕ) {from : ℕ} {first ns : List ℕ} (n : from ≡ length (getD words (r .kind) [])) (f : first ≡ sets blank 0 (getD words (r .kind) [])) (ls : ns ≡ lettersOf r (actionOf (r .kind))) where

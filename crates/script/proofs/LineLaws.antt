@@ -8,7 +8,7 @@ use lib.Dec.{leb}
 use borrow.Author.Tests.{le-leb, lt-leb}
 use lib.ListN.{length, getD}
 use Rattle.rules.specs.Facts.{test}
-use Rattle.rules.specs.Steps.{actionOf}
+use Rattle.rules.specs.Actions.{actionOf, kinds}
 use Rattle.rules.specs.declared.Action.{Action}
 use Rattle.rules.specs.declared.Action.the-variants.{Unknown, Start, Send, Request, Deliver, Rest, Tick, Release}
 use Rattle.fields.specs.Fields.{fieldOf, fieldCount}
@@ -41,13 +41,13 @@ unfolding reading
 too-long first l h = rw (lt-leb (length l) 255)
 
 module _ (first : Bool) (l : List ℕ) (short : length l ≤ 255) {word : ℕ} (w : word ≡ wordNumber (fieldOf 0 l)) where
-  pub no-word : 7 < word → Refused 22 ≡ reading first l
+  pub no-word : kinds < word → Refused 22 ≡ reading first l
   unfolding reading
-  no-word h = rw (le-leb (length l) 255, lt-leb (suc (wordNumber (fieldOf 0 l))) 8 (omega (arith, w)))
+  no-word h = rw (le-leb (length l) 255, lt-leb (wordNumber (fieldOf 0 l)) kinds (omega (arith, w)))
 
-  module _ (known : word ≤ 7) where
-    has-word : leb (suc (wordNumber (fieldOf 0 l))) 8 ≡ true
-    has-word = le-leb (suc (wordNumber (fieldOf 0 l))) 8 (omega (arith, w))
+  module _ (known : word ≤ kinds) where
+    has-word : leb (wordNumber (fieldOf 0 l)) kinds ≡ true
+    has-word = le-leb (wordNumber (fieldOf 0 l)) kinds (omega (arith, w))
 
     pub misplaced : test (rightPlace first word) ≡ false → Refused 25 ≡ reading first l
     unfolding reading

@@ -8,19 +8,18 @@ use native.Mathlib.Omega.{arith}
 use lib.ListN.{length, take, drop, getD, length-append}
 use lib.Seq.{sets-eq, take-at, drop-at, length-take-le}
 use Rattle.rules.specs.Facts.{Claim, Claims}
-use Rattle.rules.specs.Steps.{actionOf}
-use Rattle.rules.specs.Letters.{isKnown, usedFields, used}
+use Rattle.rules.specs.Actions.{kinds, actionOf, isKnown}
+use Rattle.rules.specs.Letters.{letters, used}
 use Rattle.rules.specs.Guarantee.{Fits16}
-use Rattle.rules.specs.declared.Action.{Action}
-use Rattle.rules.specs.declared.Action.the-variants.{Unknown, Start, Send, Request, Deliver, Rest, Tick, Release}
 use Rattle.rules.specs.declared.StepRecord.{StepRecord}
+use Rattle.rules.proofs.LetterLaws.{values-length}
 use Rattle.rules.proofs.FactLaws.{asked, judge-passed}
 use Rattle.placing.specs.Placing.{wrote, written}
 use Rattle.placing.specs.declared.Wrote.the-variants.{Count}
 use Rattle.placing.proofs.WriteLaws.{wrote-count, written-fits}
 use Rattle.fields.specs.Fields.{tab, countOf, fieldOf, fieldCount}
 use Rattle.script.specs.Words.{words, sameBytes, placeOf, wordNumber}
-use Rattle.script.specs.Lines.{arguments, allNumbers, values, letterCount, rightCount, lineChecks, recordBy, readingBy, reading}
+use Rattle.script.specs.Lines.{arguments, allNumbers, values, rightCount, lineChecks, readingBy, reading}
 use Rattle.script.specs.Writing.{lettersOf, stepLine, stepText, stepWrote, stepWritten}
 use Rattle.script.specs.RoundTrips.{RoundTrip}
 use Rattle.script.specs.declared.Reading.the-variants.{Asks, Refused}
@@ -34,40 +33,20 @@ use Rattle.script.proofs.JoinLaws.{first-tabbed, count-tabbed, argument
 abbrev wordOf : ℕ → List ℕ
 wordOf k = getD words k []
 
-word-none : (k : ℕ) → 1 ≤ k → k ≤ 7 → countOf tab (wordOf k) ≡ 0
+word-none : (k : ℕ) → 1 ≤ k → k ≤ kinds → countOf tab (wordOf k) ≡ 0
 unfolding countOf
 word-none = by-kind (λ k. countOf tab (wordOf k) ≡ 0) refl refl refl refl refl refl refl
 
-word-back : (k : ℕ) → 1 ≤ k → k ≤ 7 → wordNumber (wordOf k) ≡ k
+word-back : (k : ℕ) → 1 ≤ k → k ≤ kinds → wordNumber (wordOf k) ≡ k
 unfolding placeOf sameBytes
 word-back = by-kind (λ k. wordNumber (wordOf k) ≡ k) refl refl refl refl refl refl refl
 
-letters-count : (r : StepRecord) (a : Action) → length (lettersOf r a) ≡ letterCount a
-letters-count r Unknown = refl
-letters-count r Start = refl
-letters-count r Send = refl
-letters-count r Request = refl
-letters-count r Deliver = refl
-letters-count r Rest = refl
-letters-count r Tick = refl
-letters-count r Release = refl
-
-letters-back : (r : StepRecord) (a : Action) → recordBy (r .kind) (lettersOf r a) a ≡ usedFields r a
-letters-back r Unknown = refl
-letters-back r Start = refl
-letters-back r Send = refl
-letters-back r Request = refl
-letters-back r Deliver = refl
-letters-back r Rest = refl
-letters-back r Tick = refl
-letters-back r Release = refl
-
-count-right : (k n : ℕ) → 1 ≤ k → n ≡ suc (letterCount (actionOf k)) → Claim (rightCount k n)
+count-right : (k n : ℕ) → 1 ≤ k → n ≡ suc (length (letters (actionOf k))) → Claim (rightCount k n)
 count-right zero n l e = absurd (not-suc-le-zero l)
 count-right (suc k) n l e = e
 
 -- ---- the line of a step
-module _ (r : StepRecord) (l : 1 ≤ r .kind) (u : r .kind ≤ 7) (h : Fits16 r) where
+module _ (r : StepRecord) (l : 1 ≤ r .kind) (u : r .kind ≤ kinds) (h : Fits16 r) where
   abbrev ns : List ℕ
   ns = lettersOf r (actionOf (r .kind))
 
@@ -81,9 +60,9 @@ module _ (r : StepRecord) (l : 1 ≤ r .kind) (u : r .kind ≤ 7) (h : Fits16 r)
   unfolding stepLine
   line-word = ap wordNumber (first-tabbed (wordOf (r .kind)) ns none) ∙ word-back (r .kind) l u
 
-  line-count : fieldCount (stepLine r) ≡ suc (letterCount (actionOf (r .kind)))
+  line-count : fieldCount (stepLine r) ≡ suc (length (letters (actionOf (r .kind))))
   unfolding stepLine
-  line-count = count-tabbed (wordOf (r .kind)) ns none small ∙ ap suc (letters-count r (actionOf (r .kind)))
+  line-count = count-tabbed (wordOf (r .kind)) ns none small ∙ ap suc (values-length r (letters (actionOf (r .kind))))
 
   line-numbers : allNumbers (arguments (stepLine r)) ≡ true
   unfolding stepLine
@@ -100,7 +79,7 @@ module _ (r : StepRecord) (l : 1 ≤ r .kind) (u : r .kind ≤ 7) (h : Fits16 r)
 
   line-says : readingBy (wordNumber (fieldOf 0 (stepLine r))) (values (arguments (stepLine r))) ≡ Asks (used r)
   unfolding used
-  line-says = rw (line-word, line-values) (asks (r .kind) ns (λ z. omega (arith, z, l)) ∙ ap Asks (letters-back r (actionOf (r .kind))))
+  line-says = rw (line-word, line-values) (asks (r .kind) ns (λ z. omega (arith, z, l)))
 
   read-back : reading false (stepLine r) ≡ Asks (used r)
   unfolding reading

@@ -3,10 +3,10 @@ use mathlib.Core.Bool.{Bool, true, false, _&&_}
 use mathlib.Core.List.{List, [], _∷_}
 use Prim.Native.Nat.{ℕ, zero, suc, _-_}
 use lib.ListN.{length, getD, drop}
-use Rattle.rules.specs.Facts.{Fact, Check, check, below, atMost, equal, holds, judge}
-use Rattle.rules.specs.Steps.{actionOf}
+use Rattle.rules.specs.Facts.{Fact, Check, check, atMost, equal, holds, judge}
+use Rattle.rules.specs.Actions.{actionOf, kinds}
+use Rattle.rules.specs.Letters.{letters, recordFrom}
 use Rattle.rules.specs.declared.Action.{Action}
-use Rattle.rules.specs.declared.Action.the-variants.{Unknown, Start, Send, Request, Deliver, Rest, Tick, Release}
 use Rattle.rules.specs.declared.StepRecord.{StepRecord}
 use Rattle.decimal.specs.Reading.{isNumber, valueFrom}
 use Rattle.fields.specs.Fields.{fieldOf, fieldCount}
@@ -32,21 +32,10 @@ values [] = []
 values (f ∷ fs) = valueFrom 0 f ∷ values fs
 
 -- ---- what a line says
--- how many letters a step has
-abbrev pub letterCount : Action → ℕ
-letterCount Unknown = 0
-letterCount Start = 1
-letterCount Send = 3
-letterCount Request = 2
-letterCount Deliver = 1
-letterCount Rest = 1
-letterCount Tick = 1
-letterCount Release = 2
-
 -- board has M, d, then 0 or more parents; a step has its letters
 abbrev pub rightCount : ℕ → ℕ → Fact
 rightCount zero fields = atMost 3 fields
-rightCount (suc k) fields = equal fields (suc (letterCount (actionOf (suc k))))
+rightCount (suc k) fields = equal fields (suc (length (letters (actionOf (suc k)))))
 
 -- 25 first line not board, or board later
 abbrev pub rightPlace : Bool → ℕ → Fact
@@ -57,7 +46,7 @@ rightPlace false w = atMost 1 w
 abbrev pub lineChecks : Bool → List ℕ → List Check
 lineChecks first l =
     check (atMost (length l) 255) 21
-    ∷ check (below (wordNumber (fieldOf 0 l)) 8) 22
+    ∷ check (atMost (wordNumber (fieldOf 0 l)) kinds) 22
     ∷ check (rightPlace first (wordNumber (fieldOf 0 l))) 25
     ∷ check (rightCount (wordNumber (fieldOf 0 l)) (fieldCount l)) 23
     ∷ check (holds (allNumbers (arguments l))) 24
@@ -65,14 +54,7 @@ lineChecks first l =
 
 -- a step record of a kind from its letters' values, with 0 in the fields that the kind has no letter for
 abbrev pub recordBy : ℕ → List ℕ → Action → StepRecord
-recordBy k vs Unknown = record { kind = k; unit = 0; other = 0; slot = 0 }
-recordBy k vs Start = record { kind = k; unit = getD vs 0 0; other = 0; slot = 0 }
-recordBy k vs Send = record { kind = k; unit = getD vs 0 0; other = getD vs 1 0; slot = getD vs 2 0 }
-recordBy k vs Request = record { kind = k; unit = getD vs 0 0; other = 0; slot = getD vs 1 0 }
-recordBy k vs Deliver = record { kind = k; unit = 0; other = 0; slot = getD vs 0 0 }
-recordBy k vs Rest = record { kind = k; unit = getD vs 0 0; other = 0; slot = 0 }
-recordBy k vs Tick = record { kind = k; unit = getD vs 0 0; other = 0; slot = 0 }
-recordBy k vs Release = record { kind = k; unit = getD vs 0 0; other = 0; slot = getD vs 1 0 }
+recordBy k vs a = recordFrom k 0 (letters a) vs
 
 -- M, d and the number of parents, or a step
 abbrev pub readingBy : ℕ → List ℕ → Reading

@@ -4,8 +4,8 @@ use mathlib.Core.Bool.{true, false}
 use mathlib.Core.List.{List}
 use Prim.Native.Nat.{ℕ, _-_}
 use lib.ListN.{take, drop}
-use Rattle.rules.specs.Steps.{actionOf}
-use Rattle.rules.specs.Letters.{isKnown, used}
+use Rattle.rules.specs.Actions.{actionOf, isKnown}
+use Rattle.rules.specs.Letters.{used}
 use Rattle.rules.specs.Guarantee.{Fits16}
 use Rattle.rules.specs.declared.StepRecord.{StepRecord}
 use Rattle.placing.specs.declared.Wrote.the-variants.{Count}

@@ -43,6 +43,6 @@ unfoldable pub placeOf : List ℕ → List (List ℕ) → ℕ
 placeOf w [] = 0
 placeOf w (v ∷ vs) = cond (sameBytes w v) 0 (suc (placeOf w vs))
 
--- 0 for board, 1 to 7 for a step's kind, 8 for any other word
+-- 0 for board, 1 on for a step's kind, one more than the kinds for any other word
 abbrev pub wordNumber : List ℕ → ℕ
 wordNumber w = placeOf w words

@@ -3,10 +3,9 @@ use mathlib.Core.List.{List, [], _∷_, _++_}
 use Prim.Native.Nat.{ℕ}
 use lib.ListN.{getD}
 use Rattle.rules.specs.Facts.{check, holds, judge}
-use Rattle.rules.specs.Steps.{actionOf}
-use Rattle.rules.specs.Letters.{isKnown}
+use Rattle.rules.specs.Actions.{actionOf, isKnown}
+use Rattle.rules.specs.Letters.{letters, valuesOf}
 use Rattle.rules.specs.declared.Action.{Action}
-use Rattle.rules.specs.declared.Action.the-variants.{Unknown, Start, Send, Request, Deliver, Rest, Tick, Release}
 use Rattle.rules.specs.declared.StepRecord.{StepRecord}
 use Rattle.placing.specs.Placing.{wrote, written}
 use Rattle.placing.specs.declared.Wrote.{Wrote}
@@ -17,14 +16,7 @@ use Rattle.script.specs.Words.{words}
 
 -- the values of a step's letters, in the order in which they are written
 abbrev pub lettersOf : StepRecord → Action → List ℕ
-lettersOf r Unknown = []
-lettersOf r Start = r .unit ∷ []
-lettersOf r Send = r .unit ∷ r .other ∷ r .slot ∷ []
-lettersOf r Request = r .unit ∷ r .slot ∷ []
-lettersOf r Deliver = r .slot ∷ []
-lettersOf r Rest = r .unit ∷ []
-lettersOf r Tick = r .unit ∷ []
-lettersOf r Release = r .unit ∷ r .slot ∷ []
+lettersOf r a = valuesOf r (letters a)
 
 -- each number behind a tab
 unfoldable pub tabbed : List ℕ → List ℕ

@@ -3,6 +3,7 @@ use crate::Reading;
 use crate::numbers::are_numbers;
 use crate::numbers::value_at;
 use crate::words::word_number;
+use rules::KINDS;
 use rules::StepRecord;
 ghost use mathlib.Core.Path.{_≡_};
 ghost use mathlib.Core.Bool.{true};
@@ -10,7 +11,7 @@ ghost use mathlib.Core.List.{[], _∷_};
 ghost use Prim.Native.Nat.{_≤_};
 ghost use lib.ListN.{length};
 ghost use Rattle.rules.specs.Facts.{test};
-ghost use Rattle.rules.specs.Steps.{actionOf};
+ghost use Rattle.rules.specs.Actions.{kinds, actionOf};
 ghost use Rattle.fields.specs.Fields.{fieldCount};
 ghost use Rattle.script.specs.Lines.{arguments, allNumbers, values, rightPlace, rightCount, recordBy, readingBy, reading};
 
@@ -26,7 +27,7 @@ fn fits_place(word: u16, first: bool) -> bool
 
 // A board line has M, d and any number of parents, a step its letters.
 fn fits_count(word: u16, count: usize) -> bool
-    requires { ⌜ word ≤ 7 ⌝ }
+    requires { ⌜ word ≤ kinds ⌝ }
     ensures { λ r. ⌜ r ≡ test (rightCount word count) ⌝ }
 {
     match word {
@@ -39,7 +40,7 @@ fn fits_count(word: u16, count: usize) -> bool
 
 // The step of a kind by the values of its letters; fields that the kind has no letter for are 0.
 fn record_of(kind: u16, a: u16, b: u16, c: u16) -> StepRecord
-    requires { ⌜ (1 ≤ kind) × (kind ≤ 7) ⌝ }
+    requires { ⌜ (1 ≤ kind) × (kind ≤ kinds) ⌝ }
     ensures { λ r. ⌜ r ≡ recordBy kind (a ∷ b ∷ c ∷ []) (actionOf kind) ⌝ }
 {
     match kind {
@@ -72,7 +73,7 @@ fn record_of(kind: u16, a: u16, b: u16, c: u16) -> StepRecord
 
 // What a line that nothing refuses says.
 fn said(line: &[u8], word: u16, count: usize) -> Reading
-    requires { ⌜ (word ≤ 7) × (count ≡ fieldCount (now line)) × (length (now line) ≤ 255) × (test (rightCount word count) ≡ true) × (allNumbers (arguments (now line)) ≡ true) ⌝ }
+    requires { ⌜ (word ≤ kinds) × (count ≡ fieldCount (now line)) × (length (now line) ≤ 255) × (test (rightCount word count) ≡ true) × (allNumbers (arguments (now line)) ≡ true) ⌝ }
     ensures { λ r. ⌜ r ≡ readingBy word (values (arguments (now (line .entry)))) ⌝ }
 {
     let a = value_at(line, 1);
@@ -92,7 +93,7 @@ pub fn read_line(line: &[u8], first: bool) -> Reading
         return Reading::Refused(21);
     }
     let word = word_number(fields::field(line, 0));
-    if word > 7 {
+    if word > KINDS {
         return Reading::Refused(22);
     }
     let count = fields::field_count(line);

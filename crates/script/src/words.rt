@@ -1,12 +1,14 @@
 // The words of a script: found by comparing, and written.
+use rules::KINDS;
 ghost use mathlib.Core.Path.{_≡_};
 ghost use mathlib.Core.List.{[]};
 ghost use Prim.Native.Nat.{_≤_};
 ghost use lib.ListN.{length, getD};
 ghost use lib.Seq.{sets};
+ghost use Rattle.rules.specs.Actions.{kinds};
 ghost use Rattle.script.specs.Words.{words, wordNumber};
 
-// 0 for board, 1 to 7 for a step's kind, 8 for any other word.
+// 0 for board, 1 to KINDS for a step's kind, KINDS + 1 for any other word.
 pub(crate) fn word_number(w: &[u8]) -> u16
     ensures { λ r. ⌜ r ≡ wordNumber (now (w .entry)) ⌝ }
 {
@@ -34,7 +36,7 @@ pub(crate) fn word_number(w: &[u8]) -> u16
     if check::same(w, b"release") {
         return 7;
     }
-    8
+    KINDS + 1
 }
 
 // A word at the start of a buffer; the answer is its length.
@@ -48,7 +50,7 @@ fn put(word: &[u8], out: &mut [u8]) -> usize
 
 // The word of a step's kind at the start of a buffer; the answer is its length.
 pub(crate) fn put_word(kind: u16, out: &mut [u8]) -> usize
-    requires { ⌜ (1 ≤ kind) × (kind ≤ 7) × (7 ≤ length (now out)) ⌝ }
+    requires { ⌜ (1 ≤ kind) × (kind ≤ kinds) × (7 ≤ length (now out)) ⌝ }
     ensures { λ n. ⌜ (n ≡ length (getD words kind [])) × (now (out .exit) ≡ sets (now (out .entry)) 0 (getD words kind [])) ⌝ }
 {
     match kind {

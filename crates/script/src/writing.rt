@@ -1,13 +1,13 @@
 // Writing a step as a line of a script.
 use crate::words::put_word;
 use placing::Wrote;
+use rules::KINDS;
 use rules::StepRecord;
 ghost use mathlib.Core.Path.{_≡_};
 ghost use Prim.Native.Nat.{_+_, _≤_};
 ghost use lib.ListN.{length, take};
 ghost use lib.Seq.{sets};
-ghost use Rattle.rules.specs.Steps.{actionOf};
-ghost use Rattle.rules.specs.Letters.{isKnown};
+ghost use Rattle.rules.specs.Actions.{kinds, actionOf, isKnown};
 ghost use Rattle.placing.specs.Placing.{Writes};
 ghost use Rattle.script.specs.Writing.{lettersOf, tabbed, stepText, stepWrote, stepWritten};
 
@@ -18,7 +18,7 @@ struct Letters {
 }
 
 fn letters_of(r: StepRecord) -> Letters
-    requires { ⌜ (1 ≤ r .kind) × (r .kind ≤ 7) ⌝ }
+    requires { ⌜ (1 ≤ r .kind) × (r .kind ≤ kinds) ⌝ }
     ensures { λ s. ⌜ (s .count ≤ length (s .list)) × (take (s .count) (s .list) ≡ lettersOf r (actionOf (r .kind))) ⌝ }
 {
     let kind = r.kind;
@@ -66,7 +66,7 @@ fn put_tabbed(ns: &[u16], out: &mut [u8], at: usize) -> usize
 
 // The line at the start of a buffer. It is put together apart, so that its whole length is known before the buffer changes.
 fn step_line(r: StepRecord, out: &mut [u8]) -> Wrote
-    requires { ⌜ (1 ≤ r .kind) × (r .kind ≤ 7) ⌝ }
+    requires { ⌜ (1 ≤ r .kind) × (r .kind ≤ kinds) ⌝ }
     ensures { λ w. ⌜ Writes (stepText r) 0 (now (out .entry)) w (now (out .exit)) ⌝ }
 {
     let mut text = [0u8; 32];
@@ -86,7 +86,7 @@ fn is_kind(kind: u16) -> bool
     if kind < 1 {
         return false;
     }
-    kind <= 7
+    kind <= KINDS
 }
 
 // The kind is tested before the place.

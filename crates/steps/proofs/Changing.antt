@@ -7,7 +7,8 @@ use lib.ListN.{set}
 use lib.Seq.{set-getD}
 use Rattle.rules.specs.Words.{blankUnit, blankSlot, ceiling, parentAt, unitAt, slotAt}
 use Rattle.rules.specs.Sound.{Sound, sound}
-use Rattle.rules.specs.Steps.{actionOf, effect, changed, applied, soundStep, step}
+use Rattle.rules.specs.Actions.{actionOf}
+use Rattle.rules.specs.Steps.{effect, changed, applied, soundStep, step}
 use Rattle.rules.specs.declared.Effect.{Effect}
 use Rattle.rules.specs.declared.Effect.the-variants.{Refused, OnUnit, OnSlot, OnBoth}
 use Rattle.rules.specs.declared.Board.{Board}

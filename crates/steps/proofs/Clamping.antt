@@ -7,7 +7,8 @@ use lib.Dec.{eqb}
 use Rattle.rules.specs.Facts.{Claims, judge}
 use Rattle.rules.specs.Words.{unitAt, slotAt, parentAt}
 use Rattle.rules.specs.Sound.{Sound, kindRow}
-use Rattle.rules.specs.Steps.{unitBy, unitOf, slotOf, placeChecks, recordRule, effectBy, applied}
+use Rattle.rules.specs.Letters.{unitBy, slotOf, placeChecks}
+use Rattle.rules.specs.Steps.{unitOf, recordRule, effectBy, applied}
 use Rattle.rules.specs.declared.Action.{Action}
 use Rattle.rules.specs.declared.Action.the-variants.{Unknown, Start, Send, Request as RequestStep, Deliver, Rest, Tick, Release}
 use Rattle.rules.specs.declared.Kind.{Kind}

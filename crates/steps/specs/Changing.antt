@@ -3,7 +3,9 @@ use mathlib.Core.Bool.{Bool}
 use mathlib.Core.List.{_∷_}
 use Prim.Native.Nat.{ℕ, min}
 use Rattle.rules.specs.Facts.{check, holds, judge}
-use Rattle.rules.specs.Steps.{actionOf, slotOf, unitBy, placeChecks, recordRule}
+use Rattle.rules.specs.Actions.{actionOf}
+use Rattle.rules.specs.Letters.{slotOf, unitBy, placeChecks}
+use Rattle.rules.specs.Steps.{recordRule}
 use Rattle.rules.specs.declared.Effect.{Effect}
 use Rattle.rules.specs.declared.Effect.the-variants.{Refused, OnUnit, OnSlot, OnBoth}
 use Rattle.rules.specs.declared.UnitRecord.{UnitRecord}

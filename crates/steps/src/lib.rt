@@ -24,7 +24,8 @@ use rules::Outcome;
 use rules::StepRecord;
 ghost use mathlib.Core.Path.{_≡_};
 ghost use Rattle.rules.specs.Sound.{sound};
-ghost use Rattle.rules.specs.Steps.{actionOf, step};
+ghost use Rattle.rules.specs.Actions.{actionOf};
+ghost use Rattle.rules.specs.Steps.{step};
 pub use batch::run_batch;
 
 // A step's kind by its number; every number outside 1 to 7 is unknown.

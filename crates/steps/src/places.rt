@@ -3,7 +3,7 @@ ghost use mathlib.Core.Path.{_≡_};
 ghost use mathlib.Core.List.{[], _∷_};
 ghost use Prim.Native.Nat.{min};
 ghost use Rattle.rules.specs.Facts.{check, below, judge};
-ghost use Rattle.rules.specs.Steps.{slotOf, unitBy, placeChecks};
+ghost use Rattle.rules.specs.Letters.{slotOf, unitBy, placeChecks};
 use rules::Action;
 use rules::StepRecord;
 

@@ -1,7 +1,7 @@
 -- `action` meets its contract: each number computes, and what is none of the seven is past the table.
 use mathlib.Core.Path.{_≡_, refl}
 use Prim.Native.Nat.{ℕ, zero, suc}
-use Rattle.rules.specs.Steps.{actionOf}
+use Rattle.rules.specs.Actions.{actionOf}
 use Rattle.rules.specs.declared.Action.the-variants.{Unknown}
 use borrow.Author.Needs.{needs}
 use Rattle.steps.proofs.action.Statement.{statement}

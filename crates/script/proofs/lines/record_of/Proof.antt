@@ -3,7 +3,7 @@ use mathlib.Core.Path.{_≡_, refl}
 use mathlib.Core.Logic.{⊎-elim}
 use mathlib.Core.List.{[], _∷_}
 use Prim.Native.Nat.{ℕ}
-use Rattle.rules.specs.Steps.{actionOf}
+use Rattle.rules.specs.Actions.{actionOf}
 use Rattle.rules.specs.declared.StepRecord.{StepRecord}
 use Rattle.script.specs.Lines.{recordBy}
 use Rattle.script.proofs.KindLaws.{by-others}

@@ -89,4 +89,5 @@ word-number-spec =
     (λ c. search needs)
     (λ c κs. search needs)
     returns-8
+    (λ c. search needs)
     returns-9)

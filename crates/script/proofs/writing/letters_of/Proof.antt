@@ -3,7 +3,7 @@ use mathlib.Core.Path.{_≡_, refl}
 use mathlib.Core.Logic.{⊎-elim}
 use mathlib.Core.List.{[], _∷_}
 use native.Mathlib.Omega.{arith}
-use Rattle.rules.specs.Steps.{actionOf}
+use Rattle.rules.specs.Actions.{actionOf}
 use Rattle.script.specs.Writing.{lettersOf}
 use Rattle.script.proofs.KindLaws.{by-others}
 use Rattle.script.proofs.writing.letters_of.Statement.{statement}

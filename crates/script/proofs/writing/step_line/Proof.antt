@@ -1,7 +1,7 @@
 -- `step_line` meets its contract: the text is put together whole, and `put_bytes` writes it or refuses.
 use mathlib.Core.Path.{_≡_}
 use Prim.Native.Nat.{_-_, _≤_}
-use Rattle.rules.specs.Steps.{actionOf}
+use Rattle.rules.specs.Actions.{actionOf}
 use lib.ListN.{length, take, length-set}
 use Rattle.script.specs.Writing.{lettersOf, stepLine}
 use borrow.Author.Needs.{needs}

@@ -4,8 +4,7 @@ use mathlib.Core.Bool.{true}
 use native.Mathlib.Omega.{arith}
 use borrow.Author.Needs.{needs}
 use borrow.Author.Tests.{not-true, not-false}
-use Rattle.rules.specs.Steps.{actionOf}
-use Rattle.rules.specs.Letters.{isKnown}
+use Rattle.rules.specs.Actions.{actionOf, isKnown}
 use Rattle.placing.proofs.WriteLaws.{refuses, from-rest-start}
 use Rattle.script.specs.Writing.{stepText}
 use Rattle.script.proofs.KindLaws.{known-range}

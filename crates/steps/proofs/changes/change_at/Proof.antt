@@ -3,7 +3,8 @@ use mathlib.Core.Path.{ap, _∙_}
 use borrow.Author.Needs.{needs}
 use borrow.Author.Tests.{not-true, not-false}
 use Rattle.rules.specs.Facts.{judge}
-use Rattle.rules.specs.Steps.{placeChecks, recordRule}
+use Rattle.rules.specs.Letters.{placeChecks}
+use Rattle.rules.specs.Steps.{recordRule}
 use Rattle.rules.specs.declared.Action.{Action}
 use Rattle.rules.specs.declared.Effect.{Effect}
 use Rattle.rules.specs.declared.Effect.the-variants.{Refused}
