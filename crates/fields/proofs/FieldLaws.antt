@@ -7,7 +7,7 @@ use native.Mathlib.Omega.{arith}
 use lib.ListN.{length, take, drop, length-drop, drop-of-length-le}
 use lib.Seq.{drop-drop, drop-length}
 use Rattle.fields.specs.Fields.{upTo, past, countOf, endFrom, tab, fieldOf, fieldStart, fieldCount}
-use Rattle.fields.proofs.PartLaws.{upTo-joined, past-joined, count-joined, upTo-whole, past-whole, upTo-take, past-at-most, past-stands, count-past, upTo-none, end-is, end-after, end-at-most, upTo-from, past-from}
+use Rattle.fields.proofs.PartLaws.{count-few, upTo-joined, past-joined, count-joined, upTo-whole, past-whole, upTo-take, past-at-most, past-stands, count-past, upTo-none, end-is, end-after, end-at-most, upTo-from, past-from}
 
 -- ---- fields that are joined by tabs
 
@@ -32,7 +32,11 @@ module _ (w : List ℕ) (none : countOf tab w ≡ 0) where
   unfolding fieldCount
   count-alone = ap suc none
 
--- ---- where a field stands
+-- ---- how many there are, and where a field stands
+-- a line has at most one field more than bytes
+pub count-at-most : (l : List ℕ) → fieldCount l ≤ suc (length l)
+unfolding fieldCount
+count-at-most l = omega (arith, count-few tab l)
 
 pub start-at-most : (k : ℕ) (l : List ℕ) → fieldStart k l ≤ length l
 unfolding fieldStart

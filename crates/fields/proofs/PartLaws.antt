@@ -23,6 +23,15 @@ count-append e (c ∷ a) b = at _ _ _ (eqb c e) (count-append e a b)
     at p q r true h = omega arith
     at p q r false h = h
 
+pub count-few : (e : ℕ) (l : List ℕ) → countOf e l ≤ length l
+unfolding countOf
+count-few e [] = omega arith
+count-few e (c ∷ l) = at (eqb c e) (count-few e l)
+  where
+    at : (t : Bool) {n m : ℕ} → n ≤ m → cond t (suc n) n ≤ suc m
+    at true h = omega arith
+    at false h = omega arith
+
 -- ---- a word without the separator in front
 
 -- where no byte of c ∷ w is the separator, c is not, and none of w is

@@ -18,11 +18,12 @@ use Rattle.rules.specs.declared.StepRecord.{StepRecord}
 use Rattle.rules.specs.declared.Outcome.{Outcome}
 use Rattle.rules.specs.declared.Verdict.{Verdict}
 use Rattle.rules.specs.declared.Verdict.the-variants.{Working, Finished, Refused}
+use Rattle.numbers.specs.Lines.{linesOf}
 use Rattle.script.specs.Lines.{reading}
 use Rattle.script.specs.declared.Reading.{Reading}
 use Rattle.script.specs.declared.Reading.the-variants.{Opens, Asks, Refused as LineRefused}
 use Rattle.texts.specs.Texts.{heading, finishedWord, stateWord, refusedText}
-use Rattle.listing.specs.Scripts.{linesOf, lineOutcome, laterOutcome, startOutcome, Line, textOf, laterLines, openedLines, listing}
+use Rattle.listing.specs.Scripts.{lineOutcome, laterOutcome, startOutcome, Line, textOf, laterLines, openedLines, listing}
 use Rattle.listing.proofs.StartLaws.{FromOpening, Started, opened, refused, starts}
 use Rattle.listing.specs.Listed.{Reached, Says, AllSay, ListingGuarantee}
 

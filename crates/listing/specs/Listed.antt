@@ -9,8 +9,9 @@ use Rattle.rules.specs.Finished.{verdict, Complete}
 use Rattle.rules.specs.declared.Board.{Board}
 use Rattle.rules.specs.declared.StepRecord.{StepRecord}
 use Rattle.rules.specs.declared.Outcome.{Outcome}
+use Rattle.numbers.specs.Lines.{linesOf}
 use Rattle.texts.specs.Texts.{heading, finishedWord, stateWord}
-use Rattle.listing.specs.Scripts.{linesOf, startOutcome, Line, textOf, openedLines, listing}
+use Rattle.listing.specs.Scripts.{startOutcome, Line, textOf, openedLines, listing}
 
 -- a list of steps that led to a board from the one that the board line opened: o is its outcome
 pub record Reached (o : Outcome) (b : Board) : Type 0 where

@@ -5,13 +5,14 @@ use mathlib.Core.List.{List, [], _∷_}
 use Prim.Native.Nat.{ℕ, zero, suc, _+_, _-_, _≤_, _<_, min}
 use native.Mathlib.Nat.{not-suc-le-zero}
 use native.Mathlib.Omega.{arith}
-use lib.ListN.{length, drop, length-drop, drop-of-length-le}
+use lib.ListN.{length, take, drop, length-drop, drop-of-length-le}
 use lib.Seq.{drop-drop}
 use lib.Dec.{eqb, leb}
 use borrow.Author.Tests.{leb-true, leb-false}
 use Rattle.fields.specs.Fields.{upTo, past, endFrom}
-use Rattle.fields.proofs.PartLaws.{past-at-most, past-stands, past-from, end-at-most, end-last}
+use Rattle.fields.proofs.PartLaws.{past-at-most, past-stands, past-from, upTo-from, end-after, end-at-most, end-last}
 use Rattle.numbers.specs.Lines.{linesWithin, linesOf, behind, lineAt}
+use Rattle.numbers.specs.declared.LineAt.{LineAt}
 
 pub past-shorter : (e c : ℕ) (cs : List ℕ) → length (past e (c ∷ cs)) ≤ length cs
 unfolding past
@@ -54,6 +55,23 @@ module _ (at : ℕ) (s : List ℕ) {e : ℕ} (t : e ≡ endFrom 10 at s) where
 
   pub line-last : length s ≤ e → record { end = e; next = e } ≡ lineAt at s
   line-last m = line-is (omega (arith, m, t, end-at-most 10 at s))
+
+-- ---- the part of the text where the line at a place stands, for a caller of `line_at`
+module _ (at : ℕ) (s : List ℕ) {x : LineAt} (is : x ≡ lineAt at s) where
+  ends : x .end ≡ endFrom 10 at s
+  ends = ap (λ (y : LineAt). y .end) is
+
+  pub line-inside : x .end ≤ length s
+  line-inside = omega (arith, ends, end-at-most 10 at s)
+
+  pub line-starts : at ≤ length s → at ≤ x .end
+  line-starts h = omega (arith, ends, end-after 10 at s h)
+
+  pub line-part : at ≤ length s → take (x .end - at) (drop at s) ≡ upTo 10 (drop at s)
+  line-part h = ap (λ (e : ℕ). take (e - at) (drop at s)) ends ∙ sym (upTo-from 10 at s h)
+
+  pub line-next : x .next ≡ behind at s
+  line-next = ap (λ (y : LineAt). y .next) is
 
 -- ---- the lines behind the first
 lines-enough : (k j : ℕ) (s : List ℕ) → length s ≤ k → length s ≤ j → linesWithin k s ≡ linesWithin j s

@@ -10,7 +10,7 @@ use borrow.Author.Tests.{leb-true, leb-false}
 use Rattle.decimal.specs.Reading.{isNumber, allDigits, valueFrom}
 use Rattle.fields.specs.Fields.{tab, upTo, past, countOf, fieldCount}
 use Rattle.fields.proofs.PartLaws.{upTo-at-most, parted, count-past}
-use Rattle.numbers.specs.Numbers.{fieldsOf, fieldsAt, allNumbers, values, padded, room, refusalOf}
+use Rattle.numbers.specs.Numbers.{fieldsOf, fieldsAt, allNumbers, values, padded, room, refusalOf, numbersOf}
 use Rattle.numbers.proofs.PlaceLaws.{fields-inside, fields-past-end, fields-on, fields-split, fields-count}
 
 -- ---- numbers
@@ -38,6 +38,10 @@ numbers-all fs e = by-test (allNumbers fs) e
     by-test : (t : Bool) → _≡_ {A = ℕ} (cond t 0 24) 0 → t ≡ true
     by-test true q = refl
     by-test false q = absurd (omega (arith, q))
+
+-- one whose fields are all numbers has their values
+pub numbers-list : (fs : List (List ℕ)) → allNumbers fs ≡ true → numbersOf fs .list ≡ padded room (values fs)
+numbers-list fs e = rw e
 
 -- ---- values
 pub values-length : (fs : List (List ℕ)) → length (values fs) ≡ length fs
