@@ -2,17 +2,16 @@
 use mathlib.Core.Path.{_≡_, refl, sym, ap, _∙_}
 use mathlib.Core.Bool.{Bool, false, cond}
 use mathlib.Core.List.{List, [], _∷_, _++_, append-assoc, append-nil}
-use Prim.Native.Nat.{ℕ, zero, suc, _+_, _-_, _≤_, _<_, min}
+use Prim.Native.Nat.{ℕ, zero, suc, _+_, _-_, _≤_, _<_}
 use native.Mathlib.Nat.{sub-zero}
 use native.Mathlib.Numerals.{add-one}
 use native.Mathlib.Omega.{arith}
-use lib.ListN.{length, take, drop, set, length-take, length-drop, length-set}
+use lib.ListN.{length, take, drop, set, length-take, length-set}
 use lib.Seq.{take-suc-set}
 use borrow.Author.Tests.{le-leb, lt-leb}
 use Rattle.rules.specs.Runs.{batchMost}
 use Rattle.rules.specs.declared.StepRecord.{StepRecord}
-use Rattle.fields.specs.Fields.{upTo, endFrom}
-use Rattle.fields.proofs.PartLaws.{past-from, end-at-most}
+use Rattle.fields.specs.Fields.{upTo}
 use Rattle.numbers.specs.Lines.{behind}
 use Rattle.script.specs.Lines.{reading, refusalBy}
 use Rattle.script.specs.declared.Reading.{Reading}

@@ -6,12 +6,12 @@ use Prim.Native.Nat.{ℕ, suc, _+_, _*_, _≤_}
 use native.Mathlib.Omega.{arith}
 use lib.Dec.{leb}
 use lib.ListN.{length, length-append}
-use borrow.Author.Tests.{le-leb, leb-true, ne-eqb}
-use Rattle.decimal.specs.Reading.{isDigit, allDigits, isNumber}
+use borrow.Author.Tests.{leb-true, ne-eqb}
+use Rattle.decimal.specs.Reading.{isDigit, allDigits}
 use Rattle.decimal.specs.Spelling.{spelled}
-use Rattle.decimal.proofs.CountLaws.{count-some, count-word}
+use Rattle.decimal.proofs.CountLaws.{count-word}
 use Rattle.decimal.proofs.SpellLaws.{spelled-digits, spelled-length}
-use Rattle.decimal.proofs.RoundTrip.{value-spelled}
+use Rattle.decimal.proofs.RoundTrip.{value-spelled, spelled-number}
 use Rattle.fields.specs.Fields.{tab, countOf, upTo}
 use Rattle.fields.proofs.PartLaws.{upTo-whole, upTo-joined, past-joined, count-joined}
 use Rattle.numbers.specs.Numbers.{fieldsOf, fieldsAt, allNumbers, values, tabbed}
@@ -61,9 +61,6 @@ fields-tabbed w [] e h = ap fieldsOf (append-nil w) ∙ fields-alone w e
 fields-tabbed w (n ∷ ns) e h = fields-joined w e (spelled n ++ tabbed ns) ∙ ap (λ (fs : List (List ℕ)). w ∷ fs) (fields-tabbed (spelled n) ns (spelled-none n (h .0)) (h .1))
 
 -- ---- read back
-spelled-number : (n : ℕ) → n ≤ 65535 → isNumber (spelled n) ≡ true
-spelled-number n h = rw (value-spelled n (omega arith), spelled-digits n (omega arith), le-leb n 65535, le-leb 1 (length (spelled n)) (omega (arith, spelled-length n, count-some n)))
-
 pub numbers-tabbed : (ns : List ℕ) → Small ns → allNumbers (map spelled ns) ≡ true
 unfolding allNumbers
 numbers-tabbed [] h = refl

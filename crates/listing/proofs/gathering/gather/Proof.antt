@@ -1,8 +1,7 @@
 -- `gathering::gather` meets its contract: at each turn, the lines gathered and those that are left from here are the lines of the whole.
-use mathlib.Core.Path.{refl, sym, ap, _∙_}
+use mathlib.Core.Path.{refl, ap, _∙_}
 use mathlib.Core.Bool.{false}
-use mathlib.Core.List.{List}
-use Prim.Native.Nat.{ℕ, _-_}
+use Prim.Native.Nat.{_-_}
 use native.Mathlib.Omega.{arith}
 use borrow.Author.Needs.{needs}
 use Rattle.numbers.proofs.LineLaws.{line-inside, line-starts, line-part, line-next}
