@@ -78,7 +78,7 @@ module _ {l : List ℕ} {from : ℕ} {list : List ℕ} {count refusal at : ℕ} 
 
   goes : (next : List ℕ) → sets next (count + 1) (take (room - (count + 1)) (entries rest)) ≡ sets list count (take (room - count) (entries (field ∷ rest))) → Pass l from next (count + 1) r (end + 1)
   goes next e = record {
-    few = omega (arith, p .few, part-starts at l inside t);
+    few = omega (arith, p .few, part-starts tab at l t inside);
     counted = omega (arith, p .counted, ap length turn);
     refused = ap (λ (k : ℕ). after k rest) (with ∙ ap (refusalWith refusal) is) ∙ after-next refusal field rest ∙ ap (after refusal) (sym turn) ∙ p .refused;
     stored = e ∙ ap (λ (fs : List (List ℕ)). sets list count (take (room - count) (entries fs))) (sym turn) ∙ p .stored;

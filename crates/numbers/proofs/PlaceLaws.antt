@@ -69,13 +69,14 @@ unfolding fieldsOf
 fields-count l = fields-many (fieldCount l) 0 l
 
 -- ---- the field that starts at a place, up to the next tab, and those behind it
-module _ (at : ℕ) (l : List ℕ) {end : ℕ} (inside : at ≤ length l) (t : end ≡ endFrom tab at l) where
-  pub part-starts : at ≤ end
-  part-starts = omega (arith, end-after tab at l inside)
+module _ (e at : ℕ) (l : List ℕ) {end : ℕ} (t : end ≡ endFrom e at l) where
+  pub part-starts : at ≤ length l → at ≤ end
+  part-starts inside = omega (arith, end-after e at l inside)
 
   pub part-ends : end ≤ length l
-  part-ends = omega (arith, end-at-most tab at l)
+  part-ends = omega (arith, end-at-most e at l)
 
+module _ (at : ℕ) (l : List ℕ) {end : ℕ} (inside : at ≤ length l) (t : end ≡ endFrom tab at l) where
   pub fields-turn : fieldsAt at l ≡ take (end - at) (drop at l) ∷ fieldsAt (end + 1) l
   fields-turn =
       let m : List ℕ = drop at l in

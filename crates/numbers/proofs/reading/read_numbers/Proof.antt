@@ -23,10 +23,10 @@ end-from-requires c κs = search needs
 
 -- the part that a turn reads
 end-after-start : (c : tie.After-end-from Inv-loop μ-loop) → c .before .before .loop .at ≤ c .end-from .result
-end-after-start c = part-starts _ _ (c .before .loop-test .taken) (c .end-from .ensures)
+end-after-start c = part-starts _ _ _ (c .end-from .ensures) (omega arith)
 
 end-inside : (c : tie.After-end-from Inv-loop μ-loop) → c .end-from .result ≤ length (c .before .before .before .before .args .line .now)
-end-inside c = part-ends _ _ (c .before .loop-test .taken) (c .end-from .ensures)
+end-inside c = part-ends _ _ _ (c .end-from .ensures)
 
 sub-read-number : tie.Need-sub-read-number Inv-loop μ-loop
 sub-read-number c = end-after-start c
@@ -65,11 +65,10 @@ loop-again : tie.Need-loop-again Inv-loop μ-loop
 loop-again c =
     let found = c .before .before .before .before in
     let p = found .before .before .loop .inv in
-    let inside = found .before .loop-test .taken in
     let end = found .end-from .ensures in
     let number = c .before .before .read-number .ensures in
     let refusal = c .before .refusal-with .ensures in
-    ⊎-elim (λ w. pass-stores p inside end number refusal (w .0 .taken) (w .1 .ensures) (w .2)) (λ w. pass-skips p inside end number refusal (w .0 .left) (w .1)) (c .if1 .came)
+    ⊎-elim (λ w. pass-stores p (omega arith) end number refusal (w .0 .taken) (w .1 .ensures) (w .2)) (λ w. pass-skips p (omega arith) end number refusal (w .0 .left) (w .1)) (c .if1 .came)
 
 returns : tie.Need-returns Inv-loop μ-loop
 returns c = pass-refuses (c .before .before .loop .inv) (omega arith) (c .if2 .taken)
