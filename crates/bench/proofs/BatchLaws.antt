@@ -7,6 +7,7 @@ use native.Mathlib.Nat.{add-zero}
 use native.Mathlib.Omega.{arith}
 use lib.ListN.{length, take, drop, length-take}
 use lib.Dec.{eqb}
+use Rattle.rules.specs.Events.{allAnswers}
 use Rattle.rules.specs.Facts.{oneIf}
 use Rattle.rules.specs.Sound.{sound}
 use Rattle.rules.specs.Steps.{step}
@@ -52,7 +53,7 @@ batch-walk b rs z = by-test (sound b) refl
     by-test false e = simp (e, add-zero) (sym (unsound-walk b rs z e))
 
 zeros-few : (b : Board) (rs : List StepRecord) → zeros (answers b rs) ≤ length rs
-unfolding zeros answers
+unfolding zeros allAnswers
 zeros-few b [] = omega arith
 zeros-few b (r ∷ rs) = by-test (eqb (step b r .answer) 0) (zeros-few (step b r .board) rs)
   where

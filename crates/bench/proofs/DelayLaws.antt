@@ -11,7 +11,7 @@ use lib.Seq.{drop-cons}
 use Rattle.rules.specs.Facts.{oneIf}
 use Rattle.rules.specs.Sound.{sound}
 use Rattle.rules.specs.declared.Board.{Board}
-use Rattle.steps.proofs.BatchLaws.{one-at-most}
+use Rattle.board.proofs.SlotLaws.{one-at-most}
 use Rattle.bench.specs.Counts.{withDelay, soundWith}
 
 -- what the delay was before does not matter

@@ -1,12 +1,12 @@
 -- A walk over a list of steps, as its loop goes: the steps that are left give what the whole gives.
 use mathlib.Core.Path.{_≡_, sym, ap, _∙_}
-use mathlib.Core.Bool.{Bool, true, false, cond}
 use mathlib.Core.List.{List, [], _∷_}
-use Prim.Native.Nat.{ℕ, suc, _+_, _*_, _/_, _≤_, _<_}
+use Prim.Native.Nat.{ℕ, _+_, _*_, _/_, _≤_, _<_}
 use native.Mathlib.Nat.{add-zero, zero-add}
 use native.Mathlib.Omega.{arith}
 use lib.ListN.{length, drop}
 use lib.Dec.{eqb}
+use Rattle.rules.specs.Events.{afterAll, allAnswers}
 use Rattle.rules.specs.Facts.{oneIf}
 use Rattle.rules.specs.Steps.{step}
 use Rattle.rules.specs.Lists.{after, answers}
@@ -14,7 +14,8 @@ use Rattle.rules.specs.Runs.{zeros}
 use Rattle.rules.specs.declared.Board.{Board}
 use Rattle.rules.specs.declared.StepRecord.{StepRecord}
 use Rattle.rules.specs.declared.Outcome.{Outcome}
-use Rattle.steps.proofs.BatchLaws.{one-at-most}
+use Rattle.board.proofs.SlotLaws.{one-at-most}
+use Rattle.steps.proofs.BatchLaws.{one-more}
 use Rattle.bench.specs.Trees.{treeBoard}
 use Rattle.bench.specs.Records.{recordsOf, recordAt}
 use Rattle.bench.specs.Counts.{accepted, walkOf}
@@ -25,16 +26,12 @@ use Rattle.bench.proofs.RecordLaws.{records-here, records-none}
 unfoldable pub walkFrom : Board → List StepRecord → ℕ → Walked
 walkFrom b rs z = record { board = after b rs; count = z + zeros (answers b rs) }
 
-one-more : (z m : ℕ) (t : Bool) → (z + oneIf t) + m ≡ z + cond t (suc m) m
-one-more z m true = omega arith
-one-more z m false = omega arith
-
 pub walk-step : (b : Board) (r : StepRecord) (rs : List StepRecord) (z : ℕ) → walkFrom (step b r .board) rs (z + oneIf (eqb (step b r .answer) 0)) ≡ walkFrom b (r ∷ rs) z
-unfolding walkFrom after answers zeros
+unfolding walkFrom afterAll allAnswers zeros
 walk-step b r rs z = ap (λ (k : ℕ). record { board = after (step b r .board) rs; count = k }) (one-more z (zeros (answers (step b r .board) rs)) (eqb (step b r .answer) 0))
 
 pub walk-none : (b : Board) (z : ℕ) → walkFrom b [] z ≡ record { board = b; count = z }
-unfolding walkFrom after answers zeros
+unfolding walkFrom afterAll allAnswers zeros
 walk-none b z = ap (λ (k : ℕ). record { board = b; count = k }) (add-zero z)
 
 walk-whole : (b : Board) (rs : List StepRecord) → walkFrom b rs 0 ≡ walkOf b rs

@@ -8,7 +8,7 @@ use lib.Dec.{ltb}
 use borrow.Author.Tests.{lt-ltb, le-ltb, ne-eqb}
 use Rattle.rules.specs.Facts.{Fact, atMost, equal, holds, Claims, tests}
 use Rattle.rules.specs.Words.{isIdle, isEmpty, slotAt}
-use Rattle.rules.specs.Sound.{stateRow, unitRow, kindRow, slotRow, lowerParent, parentRow}
+use Rattle.rules.specs.Sound.{stateRow, unitRow, kindRow, slotRow, lowerParent, parentRow, slotRowOn}
 use Rattle.rules.specs.declared.State.{State}
 use Rattle.rules.specs.declared.State.the-variants.{Idle, Active, Waiting}
 use Rattle.rules.specs.declared.Kind.{Kind}
@@ -25,7 +25,7 @@ kind-arm n ps y k r e = subst (λ (k′ : Kind). r ≡ tests (kindRow n ps y k�
 
 -- what is asked of slot j where `left` is left of the debt, as it is tested
 abbrev pub slotFacts : Board → ℕ → ℕ → List Fact
-slotFacts b left j = atMost (slotAt b j .weight) left ∷ slotRow (b .n) (b .m) (b .parents) j (slotAt b j)
+slotFacts b left j = atMost (slotAt b j .weight) left ∷ slotRowOn b j (slotAt b j)
 
 -- ---- an empty slot and an idle unit are asked the same in use and past the entries in use
 pub empty-row : (n m : ℕ) (ps : List ℕ) (j : ℕ) (y : Slot) → isEmpty (y .kind) ≡ true → tests (kindRow n ps y Empty) ≡ tests (slotRow n m ps j y)

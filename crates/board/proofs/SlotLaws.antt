@@ -12,7 +12,7 @@ use borrow.Author.Count.{below-none, below-more}
 use borrow.Author.Tests.{eqb-true, eqb-false, ne-eqb}
 use Rattle.rules.specs.Facts.{Claims, Each, sumOf, oneIf}
 use Rattle.rules.specs.Words.{blankSlot, slotAt}
-use Rattle.rules.specs.Sound.{slotRow, pendingIn, pending, slotsWeight, Sound}
+use Rattle.rules.specs.Sound.{pendingIn, pending, slotsWeight, Sound, slotRowOn}
 use Rattle.rules.specs.declared.Kind.{Kind}
 use Rattle.rules.specs.declared.Kind.the-variants.{Empty, Work, Return, Request, Supply}
 use Rattle.rules.specs.declared.Slot.{Slot}
@@ -31,7 +31,7 @@ unfolding sumOf
 sum-end f xs j l = ap (sumOf (λ k. f)) (drop-of-length-le xs l)
 
 -- ---- the counts
-one-at-most : (t : Bool) → oneIf t ≤ 1
+pub one-at-most : (t : Bool) → oneIf t ≤ 1
 one-at-most true = omega arith
 one-at-most false = omega arith
 
@@ -69,7 +69,7 @@ pendsAt b j = pendsFor (slotAt b j) (slotAt b j .kind)
 -- ---- once j slots are passed, and once all are
 pub record SlotsSeen (b : Board) (left : ℕ) (counts : List ℕ) (j : ℕ) : Type 0 where
   pub within : j ≤ 256
-  pub seen : (k : ℕ) → k < j → Claims (slotRow (b .n) (b .m) (b .parents) k (slotAt b k))
+  pub seen : (k : ℕ) → k < j → Claims (slotRowOn b k (slotAt b k))
   pub leaves : left + slotsWeight (b .slots) ≡ b .debt + slotsWeight (drop j (b .slots))
   pub counted : (i : ℕ) → i < 64 → getD counts i 0 + pending (drop j (b .slots)) i ≡ pending (b .slots) i
   pub few : (i : ℕ) → i < 64 → getD counts i 0 ≤ j
@@ -77,14 +77,14 @@ pub record SlotsSeen (b : Board) (left : ℕ) (counts : List ℕ) (j : ℕ) : Ty
 
 -- each fits, what they leave of the debt, and what is pending for each unit
 pub record SlotsFit (b : Board) (left : ℕ) (counts : List ℕ) : Type 0 where
-  pub fit : Each (slotRow (b .n) (b .m) (b .parents)) (b .slots)
+  pub fit : Each (slotRowOn b) (b .slots)
   pub leaves : left + slotsWeight (b .slots) ≡ b .debt
   pub counted : (i : ℕ) → i < 64 → getD counts i 0 ≡ pending (b .slots) i
 
 pub none-seen : (b : Board) → SlotsSeen b (b .debt) (replicate 64 0) 0
 none-seen b = record {
   within = omega arith;
-  seen = below-none (λ k. Claims (slotRow (b .n) (b .m) (b .parents) k (slotAt b k)));
+  seen = below-none (λ k. Claims (slotRowOn b k (slotAt b k)));
   leaves = refl;
   counted = λ i l. omega (arith, zeros-at 64 i);
   few = λ i l. omega (arith, zeros-at 64 i);
@@ -105,7 +105,7 @@ module _ (b : Board) (lengths : Lengths b) (left : ℕ) (counts : List ℕ) (j :
   pub one-more : (after : List ℕ) → CountedFor (pendsAt b j) counts after → j < 256 → Claims (slotFacts b left j) → SlotsSeen b (left - slotAt b j .weight) after (j + 1)
   one-more after n l fits = record {
     within = omega arith;
-    seen = below-more (λ k. Claims (slotRow (b .n) (b .m) (b .parents) k (slotAt b k))) j (h .seen) (fits .1);
+    seen = below-more (λ k. Claims (slotRowOn b k (slotAt b k))) j (h .seen) (fits .1);
     leaves = omega (arith, weight-next l, h .leaves, fits .0);
     counted = λ i p. omega (arith, n .more i p, h .counted i p, pending-next l i p);
     few = λ i p. omega (arith, n .more i p, h .few i p, one-at-most (eqb (pendsAt b j) i));
@@ -115,12 +115,12 @@ module _ (b : Board) (lengths : Lengths b) (left : ℕ) (counts : List ℕ) (j :
   -- a sound board refuses no slot
   pub next-fits : j < 256 → Sound b → Claims (slotFacts b left j)
   next-fits l s =
-      (omega (arith, weight-next l, h .leaves, s .s5-s6-debt), each-at (slotRow (b .n) (b .m) (b .parents)) (b .slots) j blankSlot (omega (arith, lengths .of-slots)) (s .s3-slots))
+      (omega (arith, weight-next l, h .leaves, s .s5-s6-debt), each-at (slotRowOn b) (b .slots) j blankSlot (omega (arith, lengths .of-slots)) (s .s3-slots))
 
   pub all-seen : 256 ≤ j → SlotsFit b left counts
   unfolding slotsWeight pending
   all-seen l = record {
-    fit = each-of (slotRow (b .n) (b .m) (b .parents)) (b .slots) blankSlot (λ k p. h .seen k (omega (arith, lengths .of-slots)));
+    fit = each-of (slotRowOn b) (b .slots) blankSlot (λ k p. h .seen k (omega (arith, lengths .of-slots)));
     leaves = omega (arith, h .leaves, sum-end (λ y. y .weight) (b .slots) j (omega (arith, lengths .of-slots)));
     counted = λ i p. omega (arith, h .counted i p, sum-end (λ y. pendingIn i y (y .kind)) (b .slots) j (omega (arith, lengths .of-slots)));
   }

@@ -10,7 +10,7 @@ use borrow.Author.Count.{below-none, below-more}
 use borrow.Author.Tests.{eqb-true, eqb-false}
 use Rattle.rules.specs.Facts.{Fact, atMost, Claims, Each}
 use Rattle.rules.specs.Words.{blankUnit, parentAt, unitAt, ceiling}
-use Rattle.rules.specs.Sound.{sizes, parentRow, unitRow, slotRow, pendingRow, pending, unitsWeight, slotsWeight, Sound, sound}
+use Rattle.rules.specs.Sound.{sizes, parentRow, pendingRow, pending, unitsWeight, slotsWeight, Sound, sound, slotRowOn, unitRowOn}
 use Rattle.rules.specs.declared.Board.{Board}
 use Rattle.rules.proofs.FactLaws.{claims, claims-tested, each-at, each-of}
 use Rattle.rules.proofs.SoundLaws.{sound-tested}
@@ -26,12 +26,12 @@ unitFacts b left count i = atMost (unitAt b i .weight) left ∷ entryRow (b .n) 
 pub record UnitFits (b : Board) (i : ℕ) : Type 0 where
   pub parent : Claims (parentRow (b .n) i (parentAt b i))
   pub pends : Claims (pendingRow b i (unitAt b i))
-  pub own : Claims (unitRow (b .n) (b .delay) i (unitAt b i))
+  pub own : Claims (unitRowOn b i (unitAt b i))
 
 -- ---- once i units are passed, after all slots
 pub record UnitsSeen (b : Board) (counts : List ℕ) (left i : ℕ) : Type 0 where
   pub ranges : Claims (atMost (b .debt) ceiling ∷ sizes b)
-  pub slots-fit : Each (slotRow (b .n) (b .m) (b .parents)) (b .slots)
+  pub slots-fit : Each (slotRowOn b) (b .slots)
   pub counted : (k : ℕ) → k < 64 → getD counts k 0 ≡ pending (b .slots) k
   pub within : i ≤ 64
   pub seen : (k : ℕ) → k < i → UnitFits b k
@@ -55,7 +55,7 @@ module _ (b : Board) (counts : List ℕ) (left i : ℕ) (h : UnitsSeen b counts 
   pub one-more : i < 64 → Claims (unitFacts b left (getD counts i 0) i) → UnitsSeen b counts (left - unitAt b i .weight) (i + 1)
   one-more l fits =
       let here : UnitFits b i = record {
-        own = claims (unitRow (b .n) (b .delay) i (unitAt b i)) (fits .1 .0);
+        own = claims (unitRowOn b i (unitAt b i)) (fits .1 .0);
         parent = claims (parentRow (b .n) i (parentAt b i)) (fits .1 .1 .0);
         pends = (sym (h .counted i l) ∙ fits .1 .1 .1 .0, tt);
       } in
@@ -73,7 +73,7 @@ module _ (b : Board) (counts : List ℕ) (left i : ℕ) (h : UnitsSeen b counts 
   next-fits l s = (
     omega (arith, weight-next l, h .leaves, s .s5-s6-debt),
     (
-      claims-tested (unitRow (b .n) (b .delay) i (unitAt b i)) (each-at (unitRow (b .n) (b .delay)) (b .units) i blankUnit (omega (arith, h .ranges)) (s .s2-units)),
+      claims-tested (unitRowOn b i (unitAt b i)) (each-at (unitRowOn b) (b .units) i blankUnit (omega (arith, h .ranges)) (s .s2-units)),
       (
         claims-tested (parentRow (b .n) i (parentAt b i)) (each-at (parentRow (b .n)) (b .parents) i 0 (omega (arith, h .ranges)) (s .s1-parents)),
         (h .counted i l ∙ each-at (pendingRow b) (b .units) i blankUnit (omega (arith, h .ranges)) (s .s4-pending) .0, tt),
@@ -89,7 +89,7 @@ module _ (b : Board) (counts : List ℕ) (left i : ℕ) (h : UnitsSeen b counts 
   all-fit l e = record {
     s1-sizes = h .ranges .1;
     s1-parents = each-of (parentRow (b .n)) (b .parents) 0 (λ k p. h .seen k (omega (arith, h .ranges)) .parent);
-    s2-units = each-of (unitRow (b .n) (b .delay)) (b .units) blankUnit (λ k p. h .seen k (omega (arith, h .ranges)) .own);
+    s2-units = each-of (unitRowOn b) (b .units) blankUnit (λ k p. h .seen k (omega (arith, h .ranges)) .own);
     s3-slots = h .slots-fit;
     s4-pending = each-of (pendingRow b) (b .units) blankUnit (λ k p. h .seen k (omega (arith, h .ranges)) .pends);
     s5-s6-debt = (omega (arith, weight-end l, h .leaves), (h .ranges .0, tt));

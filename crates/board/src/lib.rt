@@ -16,6 +16,7 @@ ghost use Rattle.rules.specs.Finished.{verdict, Complete};
 ghost use Rattle.rules.specs.Guarantee.{Carries};
 ghost use Rattle.rules.specs.declared.Verdict.the-variants.{Finished};
 pub use depths::depth_of;
+pub use opening::blank;
 pub use opening::open;
 pub use soundness::is_sound;
 

@@ -12,8 +12,8 @@ ghost use lib.ListN.{length, replicate};
 ghost use Rattle.rules.specs.Facts.{judge};
 ghost use Rattle.rules.specs.Opening.{lowerParents, openingChecks, blankBoard, opening};
 
-// Apart from the loops: a repeated record becomes a store for each element.
-fn blank_board() -> Board
+// The board that a refused opening hands back. Apart from the loops: a repeated record becomes a store for each element.
+pub fn blank() -> Board
     ensures { λ r. ⌜ r ≡ blankBoard ⌝ }
 {
     let unit = UnitRecord {
@@ -103,7 +103,7 @@ pub fn open(m: u16, d: u16, parents: &[u16]) -> Outcome
     ensures { λ r. ⌜ r ≡ opening m d (now (parents .entry)) ⌝ }
 {
     let refused = refusal(m, d, parents);
-    let mut b = blank_board();
+    let mut b = blank();
     if refused == 0 {
         let all = entries(parents);
         b.n = parents.len() as u16 + 1;

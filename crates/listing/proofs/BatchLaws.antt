@@ -7,17 +7,20 @@ use native.Mathlib.Omega.{arith}
 use lib.ListN.{length, drop, length-append}
 use lib.Dec.{leb, eqb}
 use borrow.Author.Tests.{le-leb, ne-eqb}
+use Rattle.rules.specs.Events.{afterAll, allAnswers}
 use Rattle.rules.specs.Finished.{toldFrom}
 use Rattle.rules.specs.Sound.{Sound}
 use Rattle.rules.specs.Steps.{recordRule, effect, applied, soundStep, step}
 use Rattle.rules.specs.Lists.{after, answers}
 use Rattle.rules.specs.Runs.{debts}
+use Rattle.rules.proofs.Changes.{refused-applied}
 use Rattle.rules.proofs.Accepted.{step-sound}
 use Rattle.rules.proofs.ListLaws.{step-keeps-sound}
 use Rattle.rules.proofs.FinishedLaws.{verdict-sound}
 use Rattle.rules.specs.declared.Board.{Board}
 use Rattle.rules.specs.declared.Outcome.{Outcome}
 use Rattle.rules.specs.declared.Verdict.{Verdict}
+use Rattle.steps.specs.NoStep.{noStep}
 use Rattle.fields.specs.Fields.{upTo}
 use Rattle.numbers.specs.Lines.{behind}
 use Rattle.script.specs.Lines.{reading, refusalBy}
@@ -84,9 +87,9 @@ part-batched (suc k) at n b s room l = by-end (leb (length s) at) l (part-batche
 
 -- ---- lines as step records
 -- a record of kind 0 is refused and leaves a sound board as it was
-unknown-keeps : (b : Board) → Sound b → step b (recordOf (Refused 0)) .board ≡ b
+unknown-keeps : (b : Board) → Sound b → step b noStep .board ≡ b
 unfolding recordRule effect applied soundStep
-unknown-keeps b h = ap (λ (o : Outcome). o .board) (step-sound b (recordOf (Refused 0)) h)
+unknown-keeps b h = ap (λ (o : Outcome). o .board) (step-sound b noStep h ∙ refused-applied b 0 0 16)
 
 line-board : (b : Board) → Sound b → (x : Reading) → step b (recordOf x) .board ≡ lineOutcome b x .board
 line-board b h (Opens m d n) = unknown-keeps b h
@@ -99,14 +102,14 @@ line-answer b (Asks r) f = refl
 line-answer b (Refused k) f = rw (ne-eqb k 0 (λ z. omega (arith, f k refl, z)))
 
 pub batch-board : (b : Board) (ls : List (List ℕ)) → Sound b → after b (recordsOf ls) ≡ boardAfter b ls
-unfolding after recordsOf boardAfter
+unfolding afterAll recordsOf boardAfter
 batch-board b [] h = refl
 batch-board b (l ∷ ls) h =
     batch-board (step b (recordOf (reading false l)) .board) ls (step-keeps-sound b (recordOf (reading false l)) h)
     ∙ ap (λ (c : Board). boardAfter c ls) (line-board b h (reading false l))
 
 pub batch-rows : (n : ℕ) (b : Board) (ls : List (List ℕ)) → Sound b → rowsText n (refusalsOf ls) (answers b (recordsOf ls)) (debts b (recordsOf ls)) ≡ batchText n b ls
-unfolding rowsText refusalsOf recordsOf answers debts batchText
+unfolding rowsText refusalsOf recordsOf allAnswers debts batchText
 batch-rows n b [] h = refl
 batch-rows n b (l ∷ ls) h =
     let x : Reading = reading false l in

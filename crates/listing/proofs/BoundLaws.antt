@@ -37,7 +37,7 @@ rest-most (suc k) c s h b = by-end (ended c s) refl (rest-most k (piece c s .nex
 
 -- the turns that the first piece leaves: fewer than the script has bytes, and none where it is too long
 start-turns : (s : List ℕ) (o : Outcome) → Started s o → (length s - startPlace s (o .answer) ≤ length s - 1) × (length s - startPlace s (o .answer) ≤ 65534)
-start-turns s o (opened l e h d f) =
+start-turns s o (opened l e h d) =
     let p : startPlace s (o .answer) ≡ behind 0 s = ap (λ (t : Bool). cond t (behind 0 s) (length s)) (eq-eqb (o .answer) 0 e) in
     below-or-not 0 (length s) (λ some. omega (arith, p, l, past-fewer 0 s some)) (λ none. omega arith)
 start-turns s o (refused k n e) =

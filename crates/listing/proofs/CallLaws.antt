@@ -27,7 +27,7 @@ judged-part (check f k ∷ cs) c s text next e = by-test (test f) (judged-part c
     by-test true h = h
     by-test false h = refl
 
-call-rest : (c : Cursor) (s : List ℕ) (room : ℕ) → callText c s room ++ rest (callNext c s room) s ≡ rest c s
+pub call-rest : (c : Cursor) (s : List ℕ) (room : ℕ) → callText c s room ++ rest (callNext c s room) s ≡ rest c s
 call-rest c s room = judged-part (partChecks c s room) c s (part c s room .text) (part c s room .next) (part-rest (suc (length s)) c s room)
 
 pub calls-rest : (c : Cursor) (s rooms : List ℕ) → joined c s rooms ++ rest (cursorAfter c s rooms) s ≡ rest c s

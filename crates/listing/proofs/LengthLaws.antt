@@ -99,7 +99,7 @@ unfolding Kept
 first-kept s o x = subst (λ (c : Cursor). ended c s ≡ false → c .begun ≡ true → Under c s) (sym (first-next s o x)) (by-start x)
   where
     by-start : Started s o → ended (startCursor s o) s ≡ false → true ≡ true → Under (startCursor s o) s
-    by-start (opened l e h d f) p q = record { short = l; line = omega arith; is-sound = h }
+    by-start (opened l e h d) p q = record { short = l; line = omega arith; is-sound = h }
     by-start (refused k n e) p q =
         let z : startPlace s (o .answer) ≡ length s = ap (λ (t : Bool). cond t (behind 0 s) (length s)) (ne-eqb (o .answer) 0 (λ y. omega (arith, n, y, ap (λ (x : Outcome). x .answer) e))) in
         absurd (true-not-false (sym (le-leb (length s) (startPlace s (o .answer)) (omega arith)) ∙ p))
@@ -128,8 +128,8 @@ part-kept (suc k) c s room h = by-stop (stops c s room) refl (part-kept k (piece
 
 -- ---- pieces
 first-most : (s : List ℕ) (o : Outcome) → Started s o → length (openedPiece s o .text) ≤ longestPiece
-first-most s o (opened l e h d f) =
-    omega (arith, ap length (first-text s o (opened l e h d f)), length-append heading (boardText 0 (o .answer) (o .board)), line-length 0 (o .answer) (o .board .debt) (stateWord (verdict (o .board))), ap digitCount e, ap digitCount d, word-most (verdict (o .board)), one-digit)
+first-most s o (opened l e h d) =
+    omega (arith, ap length (first-text s o (opened l e h d)), length-append heading (boardText 0 (o .answer) (o .board)), line-length 0 (o .answer) (o .board .debt) (stateWord (verdict (o .board))), ap digitCount e, ap digitCount d, word-most (verdict (o .board)), one-digit)
 first-most s o (refused k n e) =
     omega (arith, ap (λ (p : Piece). length (p .text)) (refused-piece s o k n e), length-append heading (refusedText k), line-length 0 k 0 refusedWord, one-digit, count-bound k 2 (omega arith) (omega arith) (omega (arith, n)))
 

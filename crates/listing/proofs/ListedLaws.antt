@@ -1,31 +1,33 @@
--- The guarantee of a listing holds: each of its boards is one that a list of steps led to from the board line's accepted opening.
+-- The guarantee of a listing holds: each of its boards is the one that the steps of the script lines so far left, from the opening of the first line on.
 use mathlib.Core.Path.{_≡_, refl, sym, ap, subst, _∙_}
-use mathlib.Core.Bool.{Bool, false, cond}
-use mathlib.Core.List.{List, [], _∷_, _++_}
-use mathlib.Core.Logic.{_↔_}
-use Prim.Native.Nat.{ℕ, suc}
+use mathlib.Core.Bool.{Bool, true, false, cond}
+use mathlib.Core.List.{List, [], _∷_, _++_, append-assoc, append-nil}
+use Prim.Native.Nat.{ℕ, suc, _+_}
+use native.Mathlib.Numerals.{add-one}
 use native.Mathlib.Omega.{arith}
-use lib.ListN.{drop}
+use lib.ListN.{length, take, length-append}
+use lib.Seq.{take-append-add}
 use borrow.Author.Tests.{eq-eqb}
-use Rattle.rules.specs.Opening.{opening}
-use Rattle.rules.specs.Steps.{step}
-use Rattle.rules.specs.Lists.{after}
-use Rattle.rules.specs.Finished.{verdict, Complete}
-use Rattle.rules.specs.Guarantee.{Guarantee}
-use Rattle.rules.proofs.Theorem.{guarantee, after-append}
+use Rattle.rules.specs.Events.{afterAll}
+use Rattle.rules.specs.Lists.{steps, after}
+use Rattle.rules.specs.Finished.{verdict}
+use Rattle.rules.specs.Guarantee.{Guaranteed, GuaranteeOf}
+use Rattle.rules.proofs.SoundLaws.{below-or-not}
+use Rattle.rules.proofs.EventLaws.{after-append}
+use Rattle.rules.proofs.Theorem.{guarantee}
 use Rattle.rules.specs.declared.Board.{Board}
 use Rattle.rules.specs.declared.StepRecord.{StepRecord}
 use Rattle.rules.specs.declared.Outcome.{Outcome}
 use Rattle.rules.specs.declared.Verdict.{Verdict}
 use Rattle.rules.specs.declared.Verdict.the-variants.{Working, Finished, Refused}
-use Rattle.numbers.specs.Lines.{linesOf}
-use Rattle.script.specs.Lines.{reading}
+use Rattle.fields.specs.Fields.{upTo}
+use Rattle.script.specs.Lines.{reading, parentsOf}
 use Rattle.script.specs.declared.Reading.{Reading}
 use Rattle.script.specs.declared.Reading.the-variants.{Opens, Asks, Refused as LineRefused}
 use Rattle.texts.specs.Texts.{heading, finishedWord, stateWord, refusedText}
-use Rattle.listing.specs.Scripts.{lineOutcome, laterOutcome, startOutcome, Line, textOf, laterLines, openedLines, listing}
-use Rattle.listing.proofs.StartLaws.{FromOpening, Started, opened, refused, starts}
-use Rattle.listing.specs.Listed.{Reached, Says, AllSay, ListingGuarantee}
+use Rattle.listing.specs.Scripts.{firstOutcome, lineOutcome, laterOutcome, startOutcome, Line, textOf, laterLines, listing}
+use Rattle.listing.specs.Listed.{OpenedBy, askedBy, stepsOf, Says, AllSay, laterOf, linesListed, ListingGuarantee}
+use Rattle.listing.proofs.StartLaws.{reading-number, start-short, start-empty, start-first}
 
 -- ---- the word finished stands for the verdict finished alone
 word-finished : (v : Verdict) → stateWord v ≡ finishedWord → v ≡ Finished
@@ -33,53 +35,77 @@ word-finished Working e = cc
 word-finished Finished e = refl
 word-finished (Refused k) e = cc
 
--- ---- an accepted board line is that of an opening
-start-opens : (s : List ℕ) → startOutcome s .answer ≡ 0 → FromOpening (startOutcome s)
-start-opens s e = by-start (starts s)
+-- ---- an accepted first line was read as a board line: every other is refused by a number
+opened-by : (s : List ℕ) → startOutcome s .answer ≡ 0 → OpenedBy s
+opened-by s e =
+    let short = start-short s e in
+    below-or-not (length s) 1 (λ p. absurd (omega (arith, e, ap (λ (o : Outcome). o .answer) (start-empty s short p))))
+    (λ p. by-reading (reading true (upTo 10 s)) refl (start-first s short p))
   where
-    by-start : Started s (startOutcome s) → FromOpening (startOutcome s)
-    by-start (opened l q h d f) = f
-    by-start (refused k p q) = absurd (omega (arith, p, e, ap (λ (o : Outcome). o .answer) q))
+    by-reading : (x : Reading) → reading true (upTo 10 s) ≡ x → startOutcome s ≡ firstOutcome (parentsOf (upTo 10 s)) x → OpenedBy s
+    by-reading (Opens m d n) is q = record { m = m; d = d; parents = n; reads = is; opens = q }
+    by-reading (Asks r) is q = absurd (omega (arith, e, ap (λ (o : Outcome). o .answer) q))
+    by-reading (LineRefused k) is q = absurd (omega (arith, e, ap (λ (o : Outcome). o .answer) q, reading-number true (upTo 10 s) k is))
 
--- ---- boards that were reached from one that an accepted opening gave
-module _ (o : Outcome) (accepted : o .answer ≡ 0) (f : FromOpening o) where
-  reached-says : (l : Line) → Reached o (l .board) → Says o l
-  unfolding Guarantee
-  reached-says l r =
-      let from : l .board ≡ after (opening (f .m) (f .d) (f .parents) .board) (r .steps) = r .leads ∙ ap (λ (x : Outcome). after (x .board) (r .steps)) (f .is) in
-      let opens : opening (f .m) (f .d) (f .parents) .answer ≡ 0 = sym (ap (λ (x : Outcome). x .answer) (f .is)) ∙ accepted in
-      let g = subst (λ (b : Board). (verdict b ≡ Finished) ↔ Complete b) (sym from) (guarantee (f .m) (f .d) (f .parents) (r .steps) opens .finished) in
-      record { reached = r; finished = (λ e. g .0 (word-finished (verdict (l .board)) e), λ c. ap stateWord (g .1 c)) }
+-- so the guarantee holds of every list of steps from its board on
+opened-guaranteed : (s : List ℕ) → startOutcome s .answer ≡ 0 → OpenedBy s → (rs : List StepRecord) → Guaranteed (startOutcome s .board) rs (after (startOutcome s .board) rs)
+unfolding GuaranteeOf
+opened-guaranteed s e o rs =
+    subst (λ (x : Outcome). Guaranteed (x .board) rs (after (x .board) rs)) (sym (o .opens))
+    (guarantee (o .m) (o .d) (parentsOf (upTo 10 s)) rs (sym (ap (λ (x : Outcome). x .answer) (o .opens)) ∙ e))
 
-  -- one step more, and a bad line
-  reached-step : (b : Board) (r : StepRecord) → Reached o b → Reached o (step b r .board)
-  unfolding after
-  reached-step b r h = record { steps = h .steps ++ r ∷ []; leads = ap (λ (x : Board). step x r .board) (h .leads) ∙ sym (after-append (o .board) (h .steps) (r ∷ [])) }
+-- ---- the board after script lines is the one that their steps left
+line-after : (b : Board) (x : Reading) → lineOutcome b x .board ≡ after b (askedBy x)
+unfolding afterAll
+line-after b (Opens m d n) = refl
+line-after b (Asks r) = refl
+line-after b (LineRefused k) = refl
 
-  reached-line : (b : Board) (x : Reading) → Reached o b → Reached o (lineOutcome b x .board)
-  reached-line b (Opens m d n) h = h
-  reached-line b (Asks r) h = reached-step b r h
-  reached-line b (LineRefused k) h = h
+steps-append : (ks ls : List (List ℕ)) → stepsOf (ks ++ ls) ≡ stepsOf ks ++ stepsOf ls
+unfolding stepsOf
+steps-append [] ls = refl
+steps-append (k ∷ ks) ls = ap (λ (rs : List StepRecord). askedBy (reading false k) ++ rs) (steps-append ks ls) ∙ sym (append-assoc (askedBy (reading false k)) (stepsOf ks) (stepsOf ls))
 
-  later-say : (n : ℕ) (b : Board) (ls : List (List ℕ)) → Reached o b → AllSay o (laterLines n b ls)
+one-line-more : (f : Board) (ks : List (List ℕ)) (l : List ℕ) → laterOutcome (after f (stepsOf ks)) l .board ≡ after f (stepsOf (ks ++ l ∷ []))
+unfolding stepsOf
+one-line-more f ks l =
+    let rs : List StepRecord = askedBy (reading false l) in
+    line-after (after f (stepsOf ks)) (reading false l)
+    ∙ sym (after-append steps f (stepsOf ks) rs)
+    ∙ ap (λ (qs : List StepRecord). after f (stepsOf ks ++ qs)) (sym (append-nil rs))
+    ∙ ap (after f) (sym (steps-append ks (l ∷ [])))
+
+-- ---- every line says it, where the guarantee holds of every list of steps from the board f on
+module _ (f : Board) (holds : (rs : List StepRecord) → Guaranteed f rs (after f rs)) where
+  line-says : (ls : List (List ℕ)) (l : Line) → l .board ≡ after f (stepsOf (take (l .number) ls)) → Says f ls l
+  line-says ls l e =
+      let rs : List StepRecord = stepsOf (take (l .number) ls) in
+      let g : Guaranteed f rs (l .board) = subst (Guaranteed f rs) (sym e) (holds rs) in
+      record { guaranteed = g; finished = (λ w. g .finished .0 (word-finished (verdict (l .board)) w), λ c. ap stateWord (g .finished .1 c)) }
+
+  -- the lines ks were read, and the lines ls are left
+  later-say : (ks ls : List (List ℕ)) (b : Board) → b ≡ after f (stepsOf ks) → AllSay f (ks ++ ls) (laterLines (suc (length ks)) b ls)
   unfolding laterLines
-  later-say n b [] h = tt
-  later-say n b (l ∷ ls) h =
-      let next = reached-line b (reading false l) h in
-      (reached-says _ next, later-say (suc n) (laterOutcome b l .board) ls next)
-
-  all-say : (ls : List (List ℕ)) → AllSay o (openedLines o ls)
-  unfolding after
-  all-say ls =
-      let first : Reached o (o .board) = record { steps = []; leads = refl } in
-      (reached-says _ first, later-say 1 (o .board) ls first)
+  later-say ks [] b e = tt
+  later-say ks (l ∷ ls) b e =
+      let more : List (List ℕ) = ks ++ l ∷ [] in
+      let c : Board = laterOutcome b l .board in
+      let next : c ≡ after f (stepsOf more) = ap (λ (x : Board). laterOutcome x l .board) e ∙ one-line-more f ks l in
+      let read : take (suc (length ks)) (ks ++ l ∷ ls) ≡ more = ap (λ (n : ℕ). take n (ks ++ l ∷ ls)) (sym (add-one (length ks))) ∙ take-append-add ks (l ∷ ls) 1 in
+      let number : length more ≡ suc (length ks) = length-append ks (l ∷ []) ∙ add-one (length ks) in (
+        line-says (ks ++ l ∷ ls) _ (next ∙ ap (λ (qs : List (List ℕ)). after f (stepsOf qs)) (sym read)),
+        subst (λ (qs : List (List ℕ)). AllSay f qs (laterLines (suc (suc (length ks))) c ls)) (append-assoc ks (l ∷ []) ls)
+            (subst (λ (n : ℕ). AllSay f (more ++ ls) (laterLines (suc n) c ls)) number (later-say more ls c next)),
+      )
 
 pub listing-guarantee : ListingGuarantee
-unfolding ListingGuarantee listing
+unfolding ListingGuarantee listing afterAll stepsOf
 listing-guarantee s e =
     let o : Outcome = startOutcome s in
-    let ls : List (List ℕ) = drop 1 (linesOf s) in
+    let by : OpenedBy s = opened-by s e in
+    let holds = opened-guaranteed s e by in
     record {
-      text = ap (λ (t : Bool). heading ++ cond t (textOf (openedLines o ls)) (refusedText (o .answer))) (eq-eqb (o .answer) 0 e);
-      says = all-say o e (start-opens s e) ls;
+      opened = by;
+      text = ap (λ (t : Bool). heading ++ cond t (textOf (linesListed s)) (refusedText (o .answer))) (eq-eqb (o .answer) 0 e);
+      says = (line-says (o .board) holds (laterOf s) _ refl, later-say (o .board) holds [] (laterOf s) (o .board) refl);
     }

@@ -1,18 +1,17 @@
 -- The first piece by the outcome of the script's first line.
 use mathlib.Core.Path.{_≡_, refl, sym, ap, subst, _∙_}
-use mathlib.Core.Bool.{Bool, true, false, cond}
+use mathlib.Core.Bool.{Bool, true, cond}
 use mathlib.Core.List.{List, _++_}
 use Prim.Native.Nat.{ℕ, zero, suc, _≤_, _<_}
 use native.Mathlib.Omega.{arith}
 use lib.ListN.{length}
 use borrow.Author.Tests.{eq-eqb, ne-eqb, le-leb, lt-leb}
-use Rattle.rules.specs.Sound.{Sound, sound}
-use Rattle.rules.specs.Opening.{openingChecks, fresh, blankBoard, opening}
+use Rattle.rules.specs.Sound.{Sound}
+use Rattle.rules.specs.Opening.{openingChecks, fresh, blankBoard, opening, refusedBy}
 use Rattle.rules.specs.Finished.{verdict}
 use Rattle.rules.proofs.FactLaws.{judge-passed}
 use Rattle.rules.proofs.JudgeLaws.{Number, Judged, passed, failed, judged}
-use Rattle.rules.proofs.SoundLaws.{sound-claims}
-use Rattle.rules.proofs.FreshSound.{opening-fresh}
+use Rattle.rules.proofs.FreshSound.{opening-fresh, blank-unsound}
 use Rattle.rules.proofs.Theorem.{opening-sound}
 use Rattle.rules.specs.declared.Outcome.{Outcome}
 use Rattle.rules.specs.declared.Verdict.the-variants.{Finished, Refused as RefusedVerdict}
@@ -24,7 +23,7 @@ use Rattle.script.specs.Lines.{arguments, lineChecks, readingBy, reading, paren
 use Rattle.script.specs.declared.Reading.{Reading}
 use Rattle.script.specs.declared.Reading.the-variants.{Opens, Asks, Refused}
 use Rattle.texts.specs.Texts.{heading, lineText, boardText, refusedText}
-use Rattle.listing.specs.Scripts.{refusedBy, firstOutcome, startChecks, startOutcome}
+use Rattle.listing.specs.Scripts.{firstOutcome, startChecks, startOutcome}
 use Rattle.listing.specs.Parts.{Piece, refusedPiece, openedPiece, firstPiece}
 use Rattle.listing.specs.Turns.{startPlace}
 use Rattle.listing.specs.declared.Cursor.{Cursor}
@@ -46,15 +45,9 @@ reading-number first l k e = by-checks (judged Refused (lineChecks first l) (rea
 abbrev openedAs : List ℕ → Outcome → Piece
 openedAs s o = record { text = heading ++ boardText 0 0 (o .board); next = record { begun = true; at = behind 0 s; line = 1; board = o .board } }
 
-pub record FromOpening (o : Outcome) : Type 0 where
-  pub m : ℕ
-  pub d : ℕ
-  pub parents : List ℕ
-  pub is : o ≡ opening m d parents
-
 -- the board is a fresh one, or blank with a number that refuses
 pub data Started (s : List ℕ) (o : Outcome) : Type 0 where
-  opened : length s ≤ 65535 → o .answer ≡ 0 → Sound (o .board) → o .board .debt ≡ 0 → FromOpening o → Started s o
+  opened : length s ≤ 65535 → o .answer ≡ 0 → Sound (o .board) → o .board .debt ≡ 0 → Started s o
   refused : (k : ℕ) → Number k → o ≡ refusedBy k → Started s o
 
 -- of an opening, short or not
@@ -65,7 +58,7 @@ opening-starts s m d ps l = by-checks (judged refusedBy (openingChecks m d ps) (
     by-checks : Judged refusedBy (openingChecks m d ps) (record { answer = 0; board = fresh m d ps }) → Started s (opening m d ps)
     by-checks (passed c) =
         let e : opening m d ps .answer ≡ 0 = ap (λ (o : Outcome). o .answer) (opening-fresh m d ps c) in
-        opened l e (opening-sound m d ps e .0) (opening-sound m d ps e .1) (record { m = m; d = d; parents = ps; is = refl })
+        opened l e (opening-sound m d ps e .0) (opening-sound m d ps e .1)
     by-checks (failed k p q) = refused k p q
 
 first-starts : (s ps : List ℕ) (x : Reading) → length s ≤ 65535 → ((k : ℕ) → x ≡ Refused k → Number k) → Started s (firstOutcome ps x)
@@ -90,7 +83,7 @@ pub start-short : (s : List ℕ) → startOutcome s .answer ≡ 0 → length s �
 start-short s e = by-start (starts s)
   where
     by-start : Started s (startOutcome s) → length s ≤ 65535
-    by-start (opened l q h d f) = l
+    by-start (opened l q h d) = l
     by-start (refused k p q) = absurd (omega (arith, p, e, ap (λ (o : Outcome). o .answer) q))
 
 -- the three cases of the outcome
@@ -112,16 +105,7 @@ pub first-opened : (s : List ℕ) → firstPiece s ≡ openedPiece s (startOutco
 unfolding firstPiece
 first-opened s = refl
 
--- a blank board is not sound, having no unit
-blank-unsound : sound blankBoard ≡ false
-unfolding blankBoard
-blank-unsound = by-test (sound blankBoard) refl
-  where
-    by-test : (t : Bool) → sound blankBoard ≡ t → sound blankBoard ≡ false
-    by-test true e = absurd (omega (arith, sound-claims blankBoard e .s1-sizes))
-    by-test false e = e
-
--- so a refused line is the line of a blank board
+-- a blank board is not sound, so a refused line is its line
 blank-text : (k : ℕ) → boardText 0 k blankBoard ≡ refusedText k
 unfolding blankBoard verdict
 blank-text k = ap (λ (t : Bool). lineText 0 k 0 (cond t Finished (RefusedVerdict 30))) blank-unsound
@@ -135,7 +119,7 @@ refused-piece s o k p e = ap (openedPiece s) e ∙ ap (λ (t : Bool). cond t (op
 
 -- the text of the first piece, and the cursor behind it, whether its line was refused or not
 pub first-text : (s : List ℕ) (o : Outcome) → Started s o → openedPiece s o .text ≡ heading ++ boardText 0 (o .answer) (o .board)
-first-text s o (opened l e h d f) = ap (λ (p : Piece). p .text) (opened-piece s o e) ∙ ap (λ (k : ℕ). heading ++ boardText 0 k (o .board)) (sym e)
+first-text s o (opened l e h d) = ap (λ (p : Piece). p .text) (opened-piece s o e) ∙ ap (λ (k : ℕ). heading ++ boardText 0 k (o .board)) (sym e)
 first-text s o (refused k p e) =
     ap (λ (x : Piece). x .text) (refused-piece s o k p e) ∙ ap (λ (x : List ℕ). heading ++ x) (sym (blank-text k)) ∙ ap (λ (x : Outcome). heading ++ boardText 0 (x .answer) (x .board)) (sym e)
 
@@ -143,7 +127,7 @@ abbrev pub startCursor : List ℕ → Outcome → Cursor
 startCursor s o = record { begun = true; at = startPlace s (o .answer); line = 1; board = o .board }
 
 pub first-next : (s : List ℕ) (o : Outcome) → Started s o → openedPiece s o .next ≡ startCursor s o
-first-next s o (opened l e h d f) =
+first-next s o (opened l e h d) =
     ap (λ (p : Piece). p .next) (opened-piece s o e) ∙ ap (λ (t : Bool). record { begun = true; at = cond t (behind 0 s) (length s); line = 1; board = o .board }) (sym (eq-eqb (o .answer) 0 e))
 first-next s o (refused k p e) =
     ap (λ (x : Piece). x .next) (refused-piece s o k p e)
@@ -159,7 +143,7 @@ start-next s = ap (λ (p : Piece). p .next) (first-opened s) ∙ first-next s (s
 
 -- where a line is left behind the first, the board is sound
 pub start-sound : (s : List ℕ) (o : Outcome) → Started s o → startPlace s (o .answer) < length s → Sound (o .board)
-start-sound s o (opened l e h d f) m = h
+start-sound s o (opened l e h d) m = h
 start-sound s o (refused k p e) m =
     let z : startPlace s (o .answer) ≡ length s = ap (λ (x : Outcome). startPlace s (x .answer)) e ∙ ap (λ (t : Bool). cond t (behind 0 s) (length s)) (ne-eqb k 0 (λ y. omega (arith, p, y))) in
     absurd (omega (arith, z, m))

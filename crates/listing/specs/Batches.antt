@@ -6,6 +6,7 @@ use Prim.Native.Nat.{ℕ, zero, suc}
 use lib.ListN.{length, drop}
 use lib.Dec.{leb}
 use Rattle.rules.specs.declared.StepRecord.{StepRecord}
+use Rattle.steps.specs.NoStep.{noStep}
 use Rattle.fields.specs.Fields.{upTo}
 use Rattle.numbers.specs.Lines.{behind}
 use Rattle.script.specs.Lines.{reading, refusalBy}
@@ -21,11 +22,11 @@ unfoldable pub placeAfter : ℕ → ℕ → List ℕ → ℕ
 placeAfter zero at s = at
 placeAfter (suc k) at s = cond (leb (length s) at) at (placeAfter k (behind at s) s)
 
--- a line as a step record: a bad line is a record of kind 0, which every board refuses and which leaves it as it was
+-- a line as a step record: a bad line is one of kind 0, which every board refuses and which leaves it as it was
 abbrev pub recordOf : Reading → StepRecord
-recordOf (Opens m d n) = record { kind = 0; unit = 0; other = 0; slot = 0 }
+recordOf (Opens m d n) = noStep
 recordOf (Asks r) = r
-recordOf (Refused k) = record { kind = 0; unit = 0; other = 0; slot = 0 }
+recordOf (Refused k) = noStep
 
 unfoldable pub recordsOf : List (List ℕ) → List StepRecord
 recordsOf [] = []

@@ -5,7 +5,7 @@ use Prim.Native.Nat.{ℕ, suc}
 use lib.ListN.{length, drop}
 use lib.Dec.{eqb}
 use Rattle.rules.specs.Facts.{Check, check, atMost, judge}
-use Rattle.rules.specs.Opening.{blankBoard, opening}
+use Rattle.rules.specs.Opening.{refusedBy, opening}
 use Rattle.rules.specs.Steps.{step}
 use Rattle.rules.specs.declared.Board.{Board}
 use Rattle.rules.specs.declared.Outcome.{Outcome}
@@ -17,9 +17,6 @@ use Rattle.script.specs.declared.Reading.the-variants.{Opens, Asks, Refused}
 use Rattle.texts.specs.Texts.{heading, boardText, refusedText}
 
 -- ---- the start of a script: the outcome of its first line
-abbrev pub refusedBy : ℕ → Outcome
-refusedBy k = record { answer = k; board = blankBoard }
-
 -- the first line opens the board, by its parents ps, or the listing is one refused line. (A step there has been refused by 25)
 abbrev pub firstOutcome : List ℕ → Reading → Outcome
 firstOutcome ps (Opens m d n) = opening m d ps

@@ -1,6 +1,6 @@
 // Where a listing in parts begins, and where it ends.
 use crate::Cursor;
-use crate::starting::blank_board;
+use board::blank;
 ghost use mathlib.Core.Path.{_≡_};
 ghost use Rattle.listing.specs.Parts.{beginning, ended};
 
@@ -8,7 +8,7 @@ ghost use Rattle.listing.specs.Parts.{beginning, ended};
 pub fn beginning() -> Cursor
     ensures { λ c. ⌜ c ≡ beginning ⌝ }
 {
-    let board = blank_board();
+    let board = blank();
     Cursor {
         begun: false,
         at: 0,

@@ -7,6 +7,7 @@ use script::read_line;
 ghost use mathlib.Core.Path.{_≡_};
 ghost use Prim.Native.Nat.{_≤_};
 ghost use Rattle.rules.specs.Runs.{batchMost};
+ghost use Rattle.steps.specs.NoStep.{noStep};
 ghost use Rattle.listing.specs.Batches.{linesAt, placeAfter, recordOf};
 ghost use Rattle.listing.specs.Turns.{Gathers};
 
@@ -30,7 +31,7 @@ fn record_of(r: Reading) -> StepRecord
 }
 
 fn no_step() -> StepRecord
-    ensures { λ x. ⌜ x ≡ recordOf (Reading.Refused 0) ⌝ }
+    ensures { λ x. ⌜ x ≡ noStep ⌝ }
 {
     StepRecord {
         kind: 0,

@@ -1,8 +1,8 @@
 // The first line of a script: the board that it opens, or the number that refuses it.
 use crate::rows::bytes_of;
+use board::blank;
 use board::open;
 use numbers::line_at;
-use rules::Board;
 use rules::Outcome;
 use rules::Verdict;
 use script::Reading;
@@ -14,28 +14,18 @@ ghost use mathlib.Core.Bool.{true};
 ghost use mathlib.Core.List.{_++_};
 ghost use Prim.Native.Nat.{_≤_};
 ghost use lib.ListN.{take};
-ghost use Rattle.rules.specs.Opening.{blankBoard, opening};
+ghost use Rattle.rules.specs.Opening.{opening, refusedBy};
 ghost use Rattle.script.specs.Lines.{reading, parentsOf};
 ghost use Rattle.numbers.specs.Numbers.{room};
 ghost use Rattle.placing.specs.Placing.{wrote, written};
 ghost use Rattle.texts.specs.Texts.{heading, lineText};
-ghost use Rattle.listing.specs.Scripts.{refusedBy, firstOutcome, startOutcome};
+ghost use Rattle.listing.specs.Scripts.{firstOutcome, startOutcome};
 ghost use Rattle.listing.specs.Turns.{bytesOf, startPlace};
-
-// What a refused opening hands back: one of no slot is.
-pub(crate) fn blank_board() -> Board
-    ensures { λ b. ⌜ b ≡ blankBoard ⌝ }
-{
-    let none = [0u16; 1];
-    let o = open(0, 0, &none[0..0]);
-    let board = o.board;
-    board
-}
 
 fn refused(answer: u16) -> Outcome
     ensures { λ o. ⌜ o ≡ refusedBy answer ⌝ }
 {
-    let board = blank_board();
+    let board = blank();
     Outcome { answer, board }
 }
 

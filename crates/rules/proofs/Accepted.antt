@@ -1,17 +1,17 @@
 -- What an accepted step tells: the board was sound, every check of the step's bracket held, and the board after it.
-use mathlib.Core.Path.{_≡_, refl, sym, ap, _∙_}
+use mathlib.Core.Path.{_≡_, refl, sym, ap, subst, _∙_}
 use mathlib.Core.Bool.{Bool, true, false, cond}
-use mathlib.Core.List.{List, [], _∷_}
-use Prim.Native.Nat.{ℕ, _≤_}
+use mathlib.Core.List.{List, [], _∷_, _++_}
+use Prim.Native.Nat.{ℕ, _+_, _≤_}
 use native.Mathlib.Omega.{arith}
-use Rattle.rules.specs.Facts.{Claims, Check}
-use Rattle.rules.specs.Words.{parentAt, unitAt, slotAt}
+use Rattle.rules.specs.Facts.{Claim, Claims, Check, check, fails}
+use Rattle.rules.specs.Words.{isEmpty, parentAt, unitAt, slotAt, grant, ceiling}
 use Rattle.rules.specs.Sound.{Sound, sound}
 use Rattle.rules.specs.Actions.{actionOf}
 use Rattle.rules.specs.Letters.{Place, amongUnits, amongSlots, Letter, letters, read, placeCheck, checksOf, placeChecks, slotOf}
-use Rattle.rules.specs.Steps.{unitOf, grantFits, recordChecks, recordEffect, recordRule, effectBy, effect, applied, soundStep, step}
+use Rattle.rules.specs.Steps.{unitOf, grantFits, recordChecks, recordRule, placesOn, checksOn, doneOn, effectBy, effect, applied, soundStep, step}
 use Rattle.rules.proofs.JudgeLaws.{Numbered, Judged, passed, failed, judged}
-use Rattle.rules.proofs.FactLaws.{asked, judge-passed}
+use Rattle.rules.proofs.FactLaws.{asked, judge-passed, claims-append, factBy, fact-shown}
 use Rattle.rules.proofs.SoundLaws.{sound-claims, sound-tested}
 use Rattle.rules.specs.declared.Kind.{Kind}
 use Rattle.rules.specs.declared.Kind.the-variants.{Empty, Work, Return, Request, Supply}
@@ -57,9 +57,17 @@ record-numbered debt x y Release = omega arith
 -- ---- what an accepted step tells, by its action
 pub record AcceptedAs (b : Board) (r : StepRecord) (a : Action) : Type 0 where
   pub named : actionOf (r .kind) ≡ a
-  pub places : Claims (asked (placeChecks (b .n) (b .m) r a))
-  pub records : Claims (asked (recordChecks (b .debt) (unitAt b (unitOf b r a)) (slotAt b (slotOf r a)) a))
-  pub gives : step b r ≡ applied b (unitOf b r a) (slotOf r a) (recordEffect (b .debt) (b .delay) r (unitAt b (unitOf b r a)) (parentAt b (unitOf b r a)) (slotAt b (slotOf r a)) a)
+  pub places : Claims (asked (placesOn b r a))
+  pub records : Claims (asked (checksOn b r a))
+  pub gives : step b r ≡ applied b (unitOf b r a) (slotOf r a) (doneOn b r a)
+
+-- the fact of its bracket that a number refuses by
+pub shown : {b : Board} {r : StepRecord} {a : Action} (k : ℕ) (c : AcceptedAs b r a) → Claim (factBy k (placesOn b r a ++ checksOn b r a))
+shown {b} {r} {a} k c = fact-shown k (placesOn b r a ++ checksOn b r a) (claims-append (placesOn b r a) (checksOn b r a) (c .places) (c .records))
+
+-- a request that was delivered left the debt within its most
+pub shown-grant : {b : Board} {r : StepRecord} → AcceptedAs b r Deliver → slotAt b (r .slot) .kind ≡ Request → b .debt + grant ≤ ceiling
+shown-grant {b} {r} c e = subst (λ (k : Kind). Claim (factBy 36 (check (fails (isEmpty k)) 35 ∷ grantFits (b .debt) k))) e (shown 36 c)
 
 -- a step on a sound board is the step without the test; on another board it is 30
 pub step-sound : (b : Board) (r : StepRecord) → Sound b → step b r ≡ soundStep b r
@@ -81,9 +89,6 @@ module _ (b : Board) (r : StepRecord) (h : Sound b) (a : Action) (named : action
   abbrev s : ℕ
   s = slotOf r a
 
-  abbrev done : Effect
-  done = recordEffect (b .debt) (b .delay) r (unitAt b u) (parentAt b u) (slotAt b s) a
-
   abbrev rule : Effect
   rule = recordRule (b .debt) (b .delay) r (unitAt b u) (parentAt b u) (slotAt b s) a
 
@@ -95,31 +100,22 @@ module _ (b : Board) (r : StepRecord) (h : Sound b) (a : Action) (named : action
   unfolding soundStep effect
   by-action = step-sound b r h ∙ ap (λ (c : Action). applied b (unitOf b r c) (slotOf r c) (effectBy b r c)) named
 
+  -- where the whole bracket holds, the step does what its effect says
+  pub step-does : Claims (asked (placesOn b r a)) → Claims (asked (checksOn b r a)) → step b r ≡ applied b u s (doneOn b r a)
+  unfolding recordRule
+  step-does p q = by-action ∙ ap (λ (x : Effect). applied b u s x) (judge-passed Refused (placesOn b r a) rule p ∙ judge-passed Refused (checksOn b r a) (doneOn b r a) q)
+
   pub accepted-as : step b r .answer ≡ 0 → AcceptedAs b r a
   unfolding recordRule
-  accepted-as e = by-places (judged Refused (placeChecks (b .n) (b .m) r a) rule (place-numbered (b .n) (b .m) r a))
+  accepted-as e = by-places (judged Refused (placesOn b r a) rule (place-numbered (b .n) (b .m) r a))
     where
       zero-answer : applied b u s (effectBy b r a) .answer ≡ 0
       zero-answer = sym (ap (λ (o : Outcome). o .answer) by-action) ∙ e
 
-      by-records : Claims (asked (placeChecks (b .n) (b .m) r a)) → Judged Refused (recordChecks (b .debt) (unitAt b u) (slotAt b s) a) done → AcceptedAs b r a
-      by-records p (passed q) = record {
-        named = named;
-        places = p;
-        records = q;
-        gives = by-action ∙ ap (λ (x : Effect). applied b u s x) (judge-passed Refused (placeChecks (b .n) (b .m) r a) rule p ∙ judge-passed Refused (recordChecks (b .debt) (unitAt b u) (slotAt b s) a) done q);
-      }
-      by-records p (failed k l q) = absurd (refused-answer (effectBy b r a) k (l .0) (judge-passed Refused (placeChecks (b .n) (b .m) r a) rule p ∙ q) zero-answer)
+      by-records : Claims (asked (placesOn b r a)) → Judged Refused (checksOn b r a) (doneOn b r a) → AcceptedAs b r a
+      by-records p (passed q) = record { named = named; places = p; records = q; gives = step-does p q }
+      by-records p (failed k l q) = absurd (refused-answer (effectBy b r a) k (l .0) (judge-passed Refused (placesOn b r a) rule p ∙ q) zero-answer)
 
-      by-places : Judged Refused (placeChecks (b .n) (b .m) r a) rule → AcceptedAs b r a
-      by-places (passed p) = by-records p (judged Refused (recordChecks (b .debt) (unitAt b u) (slotAt b s) a) done (record-numbered (b .debt) (unitAt b u) (slotAt b s) a))
+      by-places : Judged Refused (placesOn b r a) rule → AcceptedAs b r a
+      by-places (passed p) = by-records p (judged Refused (checksOn b r a) (doneOn b r a) (record-numbered (b .debt) (unitAt b u) (slotAt b s) a))
       by-places (failed k l q) = absurd (refused-answer (effectBy b r a) k (l .0) q zero-answer)
-
--- the other way: where the whole bracket holds, the step does what its effect says
-pub step-does : (b : Board) (r : StepRecord) → Sound b → (a : Action) → actionOf (r .kind) ≡ a
-    → Claims (asked (placeChecks (b .n) (b .m) r a)) → Claims (asked (recordChecks (b .debt) (unitAt b (unitOf b r a)) (slotAt b (slotOf r a)) a))
-    → step b r ≡ applied b (unitOf b r a) (slotOf r a) (recordEffect (b .debt) (b .delay) r (unitAt b (unitOf b r a)) (parentAt b (unitOf b r a)) (slotAt b (slotOf r a)) a)
-unfolding recordRule
-step-does b r h a named p q =
-    by-action b r h a named ∙ ap (λ (x : Effect). applied b (unitOf b r a) (slotOf r a) x)
-    (judge-passed Refused (placeChecks (b .n) (b .m) r a) _ p ∙ judge-passed Refused (recordChecks (b .debt) (unitAt b (unitOf b r a)) (slotAt b (slotOf r a)) a) _ q)

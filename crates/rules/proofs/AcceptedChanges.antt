@@ -1,25 +1,25 @@
 -- An accepted step never leaves the board as it was: its debt, its unit or its slot differs from what stood there.
 use mathlib.Core.Path.{_≡_, refl, sym, ap, _∙_}
-use mathlib.Core.Bool.{Bool, true, false, cond}
+use mathlib.Core.Bool.{true, false}
 use mathlib.Core.List.{List}
-use Prim.Native.Nat.{ℕ, _-_, _<_}
+use Prim.Native.Nat.{ℕ, _<_}
 use native.Mathlib.Omega.{arith}
 use lib.ListN.{getD, set}
-use lib.Dec.{eqb}
 use lib.Seq.{getD-set-same}
-use Rattle.rules.specs.Words.{isActive, isEmpty, isRequest, blankUnit, blankSlot, parentAt, unitAt, slotAt}
+use Rattle.rules.specs.Words.{isActive, isEmpty, isRequest, blankUnit, blankSlot, unitAt, slotAt}
 use Rattle.rules.specs.Sound.{Sound}
 use Rattle.rules.specs.Actions.{actionOf}
 use Rattle.rules.specs.Letters.{slotOf}
-use Rattle.rules.specs.Steps.{waitingWith, returned, unitOf, deliverEffect, recordEffect, applied}
+use Rattle.rules.specs.Steps.{unitOf, deliverEffect, doneOn, applied}
 use Rattle.rules.specs.Guarantee.{AcceptedChanges}
 use Rattle.rules.proofs.FactLaws.{true-not-false}
-use Rattle.rules.proofs.Accepted.{AcceptedAs, accepted-sound, accepted-as}
+use Rattle.rules.proofs.SoundLaws.{root-or-other}
+use Rattle.rules.proofs.Accepted.{AcceptedAs, shown, accepted-sound, accepted-as}
 use Rattle.rules.specs.declared.Kind.{Kind}
 use Rattle.rules.specs.declared.Kind.the-variants.{Empty, Work, Return, Request, Supply}
 use Rattle.rules.specs.declared.Action.{Action}
 use Rattle.rules.specs.declared.Action.the-variants.{Unknown, Start, Send, Request as RequestStep, Deliver, Rest, Tick, Release}
-use Rattle.rules.specs.declared.Effect.the-variants.{OnUnit, OnSlot, OnBoth}
+use Rattle.rules.specs.declared.Effect.{Effect}
 use Rattle.rules.specs.declared.UnitRecord.{UnitRecord}
 use Rattle.rules.specs.declared.Slot.{Slot}
 use Rattle.rules.specs.declared.Board.{Board}
@@ -47,38 +47,37 @@ module _ (b : Board) (r : StepRecord) (h : Sound b) where
   quiets u x l before after e = true-not-false (sym before ∙ sym (ap (λ (z : UnitRecord). isActive (z .state)) (unit-stays u x l e)) ∙ after)
 
   -- ---- each action
+  -- the effect at these places leaves the board as it was
+  abbrev Stays : ℕ → ℕ → Effect → Type 0
+  Stays u s e = applied b u s e .board ≡ b
+
   deliver-changes : AcceptedAs b r Deliver → (k : Kind) → slotAt b (r .slot) .kind ≡ k
-      → applied b (slotAt b (r .slot) .to) (r .slot) (deliverEffect (b .debt) (b .delay) (unitAt b (slotAt b (r .slot) .to)) (slotAt b (r .slot)) k) .board ≡ b → ⊥
+      → Stays (slotAt b (r .slot) .to) (r .slot) (deliverEffect (b .debt) (b .delay) (unitAt b (slotAt b (r .slot) .to)) (slotAt b (r .slot)) k) → ⊥
   unfolding applied
-  deliver-changes c Empty q e = true-not-false (sym (ap isEmpty q) ∙ c .records .0)
-  deliver-changes c Work q e = empties (r .slot) (c .places .0) (c .records .0) (ap (λ (d : Board). d .slots) e)
-  deliver-changes c Return q e = by-receiver (eqb (slotAt b (r .slot) .to) 0) e
-    where
-      by-receiver : (t : Bool)
-          → applied b (slotAt b (r .slot) .to) (r .slot) (cond t (OnSlot blankSlot (b .debt - slotAt b (r .slot) .weight)) (OnBoth (returned (b .delay) (unitAt b (slotAt b (r .slot) .to)) (slotAt b (r .slot) .weight) (unitAt b (slotAt b (r .slot) .to) .state)) blankSlot (b .debt))) .board ≡ b
-          → ⊥
-      by-receiver true p = empties (r .slot) (c .places .0) (c .records .0) (ap (λ (d : Board). d .slots) p)
-      by-receiver false p = empties (r .slot) (c .places .0) (c .records .0) (ap (λ (d : Board). d .slots) p)
-  deliver-changes c Request q e = true-not-false (sym (ap isRequest q) ∙ sym (ap (λ (z : Slot). isRequest (z .kind)) (slot-stays (r .slot) _ (c .places .0) (ap (λ (d : Board). d .slots) e))))
-  deliver-changes c Supply q e = empties (r .slot) (c .places .0) (c .records .0) (ap (λ (d : Board). d .slots) e)
+  deliver-changes c Empty q e = true-not-false (sym (ap isEmpty q) ∙ shown 35 c)
+  deliver-changes c Work q e = empties (r .slot) (shown 14 c) (shown 35 c) (ap (λ (d : Board). d .slots) e)
+  deliver-changes c Return q e =
+      root-or-other (λ z w. Stays (slotAt b (r .slot) .to) (r .slot) z → ⊥) (slotAt b (r .slot) .to) 0 _ _ (λ u p. empties (r .slot) (shown 14 c) (shown 35 c) (ap (λ (d : Board). d .slots) p))
+      (λ l p. empties (r .slot) (shown 14 c) (shown 35 c) (ap (λ (d : Board). d .slots) p)) e
+  deliver-changes c Request q e = true-not-false (sym (ap isRequest q) ∙ sym (ap (λ (z : Slot). isRequest (z .kind)) (slot-stays (r .slot) _ (shown 14 c) (ap (λ (d : Board). d .slots) e))))
+  deliver-changes c Supply q e = empties (r .slot) (shown 14 c) (shown 35 c) (ap (λ (d : Board). d .slots) e)
 
-  rest-changes : AcceptedAs b r Rest → (t : Bool)
-      → applied b (r .unit) 0 (cond t (OnUnit blankUnit (b .debt - unitAt b (r .unit) .weight)) (OnUnit (waitingWith (unitAt b (r .unit) .weight) (b .delay)) (b .debt))) .board ≡ b → ⊥
+  rest-changes : AcceptedAs b r Rest → Stays (r .unit) 0 (doneOn b r Rest) → ⊥
   unfolding applied
-  rest-changes c true e = quiets (r .unit) _ (c .places .0) (c .records .0) refl (ap (λ (d : Board). d .units) e)
-  rest-changes c false e = quiets (r .unit) _ (c .places .0) (c .records .0) refl (ap (λ (d : Board). d .units) e)
+  rest-changes c =
+      root-or-other (λ z w. Stays (r .unit) 0 z → ⊥) (r .unit) 0 _ _ (λ u e. quiets (r .unit) _ (shown 13 c) (shown 31 c) refl (ap (λ (d : Board). d .units) e))
+      (λ l e. quiets (r .unit) _ (shown 13 c) (shown 31 c) refl (ap (λ (d : Board). d .units) e))
 
-  changes : (a : Action) → AcceptedAs b r a
-      → applied b (unitOf b r a) (slotOf r a) (recordEffect (b .debt) (b .delay) r (unitAt b (unitOf b r a)) (parentAt b (unitOf b r a)) (slotAt b (slotOf r a)) a) .board ≡ b → ⊥
+  changes : (a : Action) → AcceptedAs b r a → Stays (unitOf b r a) (slotOf r a) (doneOn b r a) → ⊥
   unfolding applied
-  changes Unknown c e = true-not-false (sym (c .records .0))
-  changes Start c e = omega (arith, c .records, ap (λ (d : Board). d .debt) e)
-  changes Send c e = fills (r .slot) _ (c .places .1 .1 .0) (c .records .1 .1 .0) refl (ap (λ (d : Board). d .slots) e)
-  changes RequestStep c e = fills (r .slot) _ (c .places .1 .0) (c .records .1 .1 .1 .0) refl (ap (λ (d : Board). d .slots) e)
+  changes Unknown c e = true-not-false (sym (shown 16 c))
+  changes Start c e = omega (arith, shown 37 c, ap (λ (d : Board). d .debt) e)
+  changes Send c e = fills (r .slot) _ (shown 14 c) (shown 34 c) refl (ap (λ (d : Board). d .slots) e)
+  changes RequestStep c e = fills (r .slot) _ (shown 14 c) (shown 34 c) refl (ap (λ (d : Board). d .slots) e)
   changes Deliver c e = deliver-changes c (slotAt b (r .slot) .kind) refl e
-  changes Rest c e = rest-changes c (eqb (r .unit) 0) e
-  changes Tick c e = omega (arith, c .records, ap (λ (x : UnitRecord). x .countdown) (unit-stays (r .unit) _ (c .places .0) (ap (λ (d : Board). d .units) e)))
-  changes Release c e = fills (r .slot) _ (c .places .1 .0) (c .records .1 .1 .0) refl (ap (λ (d : Board). d .slots) e)
+  changes Rest c e = rest-changes c e
+  changes Tick c e = omega (arith, shown 39 c, ap (λ (x : UnitRecord). x .countdown) (unit-stays (r .unit) _ (shown 13 c) (ap (λ (d : Board). d .units) e)))
+  changes Release c e = fills (r .slot) _ (shown 14 c) (shown 34 c) refl (ap (λ (d : Board). d .slots) e)
 
 pub accepted-changes : AcceptedChanges
 unfolding AcceptedChanges

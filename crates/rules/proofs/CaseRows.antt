@@ -1,27 +1,28 @@
 -- The worked cases hold. On a sound board the test of soundness is true, so a row's steps are computed without it.
-use mathlib.Core.Path.{_≡_, refl, sym, ap, ap₂, subst, _∙_}
-use mathlib.Core.Bool.{Bool, true, false, not, cond, _&&_}
+use mathlib.Core.Path.{_≡_, refl, sym, ap, subst, _∙_}
+use mathlib.Core.Bool.{Bool, true, false, not, cond}
 use mathlib.Core.List.{List, [], _∷_}
 use Prim.Native.Nat.{ℕ, zero, suc, _<_}
 use native.Mathlib.Nat.{le-of-suc-le-suc, not-suc-le-zero}
 use native.Mathlib.Omega.{arith}
 use lib.ListN.{length, List·getD-eq-default}
 use lib.Dec.{eqb}
-use borrow.Author.Tests.{eqb-true}
-use Rattle.rules.specs.Facts.{Fact, equal, holds, fails, Claims, Each, each, sumOf}
+use Rattle.rules.specs.Facts.{Fact, equal, holds, fails, Claim, Claims, Each, each, sumOf, sameList}
 use Rattle.rules.specs.Words.{isActive, isWaiting, isWork, unitAt, slotAt, blankUnit, blankSlot, ceiling}
 use Rattle.rules.specs.Sound.{pending, unitsWeight, slotsWeight, Sound, sound}
 use Rattle.rules.specs.Depths.{depthWithin, depth, deepest}
 use Rattle.rules.specs.Opening.{lowerParents, fresh, blankBoard, opening}
 use Rattle.rules.specs.Actions.{actionOf}
-use Rattle.rules.specs.Steps.{share, grantFits, recordRule, effect, applied, soundStep, step}
-use Rattle.rules.specs.Lists.{after, answers, startBy}
+use Rattle.rules.specs.Steps.{share, deliverChecks, recordRule, effect, applied, soundStep, step}
+use Rattle.rules.specs.Events.{Events, afterAll, allAnswers}
+use Rattle.rules.specs.Lists.{steps, after, answers, startBy}
 use Rattle.rules.specs.Finished.{toldFrom}
 use Rattle.rules.specs.Drains.{Quiet, Drain, waitingUnits, returnsUnderWay, drainBound}
 use Rattle.rules.specs.Cases.{Row, shares, opens, runs, Right, AllRight, rows, attainedFrom, attainedBy, BoundAttained, stuckBoard, Stuck, deliver, wholeToRest}
-use Rattle.rules.proofs.FactLaws.{and-left, and-right, true-not-false, each-claims, each-at, asked}
+use Rattle.rules.proofs.FactLaws.{true-not-false, same-is, each-claims, each-at, factBy}
 use Rattle.rules.proofs.SoundLaws.{sound-claims, below-or-not}
-use Rattle.rules.proofs.Accepted.{AcceptedAs, step-sound, accepted-as}
+use Rattle.rules.proofs.Accepted.{AcceptedAs, shown, step-sound, accepted-as}
+use Rattle.rules.proofs.EventLaws.{same-after, same-answers}
 use Rattle.rules.proofs.ListLaws.{step-keeps-sound, list-keeps-sound}
 use Rattle.rules.proofs.FinishedLaws.{verdict-sound}
 use Rattle.rules.proofs.Theorem.{opening-sound}
@@ -36,40 +37,22 @@ use Rattle.rules.specs.declared.Verdict.{Verdict}
 use Rattle.rules.specs.declared.Verdict.the-variants.{Working, Finished, Refused}
 
 -- ---- the same list without the tests of soundness
-quickAfter : Board → List StepRecord → Board
-quickAfter b [] = b
-quickAfter b (r ∷ rs) = quickAfter (soundStep b r .board) rs
+abbrev quickSteps : Events Board StepRecord
+quickSteps = record { next = λ b r. soundStep b r .board; answer = λ b r. soundStep b r .answer }
 
-quickAnswers : Board → List StepRecord → List ℕ
-quickAnswers b [] = []
-quickAnswers b (r ∷ rs) = soundStep b r .answer ∷ quickAnswers (soundStep b r .board) rs
+abbrev quickAfter : Board → List StepRecord → Board
+quickAfter b rs = afterAll quickSteps b rs
+
+abbrev quickAnswers : Board → List StepRecord → List ℕ
+quickAnswers b rs = allAnswers quickSteps b rs
 
 quick-after : (b : Board) (rs : List StepRecord) → Sound b → after b rs ≡ quickAfter b rs
-unfolding after quickAfter
-quick-after b [] h = refl
-quick-after b (r ∷ rs) h = quick-after (step b r .board) rs (step-keeps-sound b r h) ∙ ap (λ (o : Outcome). quickAfter (o .board) rs) (step-sound b r h)
+quick-after = same-after steps quickSteps Sound step-keeps-sound (λ b r h. ap (λ (o : Outcome). o .board) (step-sound b r h))
 
 quick-answers : (b : Board) (rs : List StepRecord) → Sound b → answers b rs ≡ quickAnswers b rs
-unfolding answers quickAnswers
-quick-answers b [] h = refl
-quick-answers b (r ∷ rs) h =
-    ap (λ (ks : List ℕ). step b r .answer ∷ ks) (quick-answers (step b r .board) rs (step-keeps-sound b r h))
-    ∙ ap (λ (o : Outcome). o .answer ∷ quickAnswers (o .board) rs) (step-sound b r h)
+quick-answers = same-answers steps quickSteps Sound step-keeps-sound (λ b r h. ap (λ (o : Outcome). o .board) (step-sound b r h)) (λ b r h. ap (λ (o : Outcome). o .answer) (step-sound b r h))
 
 -- ---- a test of a row that computes, and what it shows
-sameList : List ℕ → List ℕ → Bool
-sameList [] [] = true
-sameList [] (k ∷ ks) = false
-sameList (j ∷ js) [] = false
-sameList (j ∷ js) (k ∷ ks) = eqb j k && sameList js ks
-
-same-list : (js ks : List ℕ) → sameList js ks ≡ true → js ≡ ks
-unfolding sameList
-same-list [] [] e = refl
-same-list [] (k ∷ ks) e = absurd (true-not-false (sym e))
-same-list (j ∷ js) [] e = absurd (true-not-false (sym e))
-same-list (j ∷ js) (k ∷ ks) e = ap₂ (λ (x : ℕ) (xs : List ℕ). x ∷ xs) (eqb-true j k (and-left (eqb j k) (sameList js ks) e)) (same-list js ks (and-right (eqb j k) (sameList js ks) e))
-
 tellsBy : Bool → Verdict → Bool
 tellsBy t Working = not t
 tellsBy t Finished = t
@@ -101,7 +84,7 @@ row-right (runs m d ps rs ks v) c =
     let f : Board = opening m d ps .board in
     let h : Sound f = opening-sound m d ps (c .0) .0 in (
       c .0,
-      quick-answers f rs h ∙ same-list _ ks (c .1 .0),
+      quick-answers f rs h ∙ same-is _ ks (c .1 .0),
       verdict-sound (after f rs) (list-keeps-sound f rs h) ∙ ap (λ (b : Board). toldFrom (b .debt)) (quick-after f rs h) ∙ tells-by _ v (c .1 .1 .0),
     )
 
@@ -112,7 +95,7 @@ rows-right (row ∷ rs) c = (row-right row (c .0), rows-right rs (c .1))
 
 -- one computed test over the whole table
 pub cases : AllRight rows
-unfolding rows rowRow sameList tellsBy each lowerParents opening fresh blankBoard recordRule effect applied soundStep quickAfter quickAnswers
+unfolding rows rowRow sameList tellsBy each lowerParents opening fresh blankBoard recordRule effect applied soundStep afterAll allAnswers
 cases = rows-right rows (each-claims (λ i row. rowRow row) rows refl)
 
 -- ---- the bound attained
@@ -124,7 +107,7 @@ noStartRow i r = equal (startBy (actionOf (r .kind))) 0 ∷ []
 
 -- a list whose answers are all 0 and that has no start is a drain
 drain-of : (b : Board) (rs : List StepRecord) → Each zeroRow (answers b rs) → Each noStartRow rs → Drain b rs
-unfolding Each Drain answers
+unfolding Each Drain allAnswers
 drain-of b [] a n = tt
 drain-of b (r ∷ rs) a n = ((a .0 .0, n .0 .0), drain-of (step b r .board) rs (a .1) (n .1))
 
@@ -159,7 +142,7 @@ attained-sound : Sound attainedQuick
 attained-sound = subst Sound attained-after (list-keeps-sound (opening 2 1 (0 ∷ []) .board) wholeToRest opened-sound)
 
 pub bound-attained : BoundAttained
-unfolding each sumOf lowerParents opening fresh blankBoard recordRule effect applied soundStep quickAfter quickAnswers idleRow noWorkRow drainBound waitingUnits returnsUnderWay deepest depth depthWithin
+unfolding each sumOf lowerParents opening fresh blankBoard recordRule effect applied soundStep afterAll allAnswers idleRow noWorkRow drainBound waitingUnits returnsUnderWay deepest depth depthWithin
 bound-attained = record {
   quiet = subst Quiet (sym attained-after) (quiet-of attainedQuick refl refl);
   drain = subst (λ (b : Board). Drain b attainedBy) (sym attained-after)
@@ -180,14 +163,14 @@ stuck-sound = sound-claims stuckBoard refl
 -- its one unit is active and suspended, its one slot a request, and the debt is at the ceiling
 stuck-refuses : (r : StepRecord) (a : Action) → AcceptedAs stuckBoard r a → ⊥
 unfolding stuckBoard
-stuck-refuses r Unknown c = true-not-false (sym (c .records .0))
-stuck-refuses r Start c = omega (arith, c .records)
-stuck-refuses r Send c = at-zero (r .unit) (c .places .0) (λ i. unitAt stuckBoard i .suspended ≡ false) (c .records .1 .0) true-not-false
-stuck-refuses r RequestStep c = at-zero (r .unit) (c .places .0) (λ i. unitAt stuckBoard i .suspended ≡ false) (c .records .1 .0) true-not-false
-stuck-refuses r Deliver c = at-zero (r .slot) (c .places .0) (λ i. Claims (asked (grantFits ceiling (slotAt stuckBoard i .kind)))) (c .records .1) (λ q. omega (arith, q))
-stuck-refuses r Rest c = at-zero (r .unit) (c .places .0) (λ i. unitAt stuckBoard i .suspended ≡ false) (c .records .1 .0) true-not-false
-stuck-refuses r Tick c = at-zero (r .unit) (c .places .0) (λ i. isWaiting (unitAt stuckBoard i .state) ≡ true) (c .records .0) (λ e. true-not-false (sym e))
-stuck-refuses r Release c = at-zero (r .unit) (c .places .0) (λ i. isWaiting (unitAt stuckBoard i .state) ≡ true) (c .records .0) (λ e. true-not-false (sym e))
+stuck-refuses r Unknown c = true-not-false (sym (shown 16 c))
+stuck-refuses r Start c = omega (arith, shown 37 c)
+stuck-refuses r Send c = at-zero (r .unit) (shown 13 c) (λ i. unitAt stuckBoard i .suspended ≡ false) (shown 32 c) true-not-false
+stuck-refuses r RequestStep c = at-zero (r .unit) (shown 13 c) (λ i. unitAt stuckBoard i .suspended ≡ false) (shown 32 c) true-not-false
+stuck-refuses r Deliver c = at-zero (r .slot) (shown 14 c) (λ i. Claim (factBy 36 (deliverChecks ceiling (slotAt stuckBoard i)))) (shown 36 c) (λ q. omega (arith, q))
+stuck-refuses r Rest c = at-zero (r .unit) (shown 13 c) (λ i. unitAt stuckBoard i .suspended ≡ false) (shown 32 c) true-not-false
+stuck-refuses r Tick c = at-zero (r .unit) (shown 13 c) (λ i. isWaiting (unitAt stuckBoard i .state) ≡ true) (shown 38 c) (λ e. true-not-false (sym e))
+stuck-refuses r Release c = at-zero (r .unit) (shown 13 c) (λ i. isWaiting (unitAt stuckBoard i .state) ≡ true) (shown 38 c) (λ e. true-not-false (sym e))
 
 pub stuck : Stuck stuckBoard
 unfolding stuckBoard recordRule effect applied soundStep

@@ -7,7 +7,7 @@ use lib.ListN.{length, getD, set, length-set}
 use lib.Seq.{getD-set-same, getD-set-other, set-getD}
 use Rattle.rules.specs.Facts.{Claims, Each, oneIf}
 use Rattle.rules.specs.Words.{blankUnit, blankSlot, unitAt, slotAt, ceiling}
-use Rattle.rules.specs.Sound.{unitRow, stateRow, slotRow, kindRow, pendingRow, pendingIn, pending, unitsWeight, slotsWeight, Sound}
+use Rattle.rules.specs.Sound.{stateRow, pendingRow, pendingIn, pending, unitsWeight, slotsWeight, Sound, slotRowOn, kindRowOn, unitRowOn}
 use Rattle.rules.specs.Steps.{changed, applied}
 use Rattle.rules.proofs.FactLaws.{each-of, each-set}
 use Rattle.rules.proofs.SumLaws.{sum-set}
@@ -17,14 +17,14 @@ use Rattle.rules.specs.declared.Effect.the-variants.{Refused, OnUnit, On
 use Rattle.rules.specs.declared.UnitRecord.{UnitRecord}
 use Rattle.rules.specs.declared.Slot.{Slot}
 use Rattle.rules.specs.declared.Board.{Board}
-use mathlib.Core.List.{List}
+use Rattle.rules.specs.declared.Outcome.{Outcome}
 
 -- what a change must meet: unit u becomes x, slot s becomes y, and the debt as given
 pub record Fits (b : Board) (u s : ℕ) (x : UnitRecord) (y : Slot) (debt : ℕ) : Type 0 where
   pub unit-used : u < b .n
   pub slot-used : s < b .m
   pub unit-fits : Claims (stateRow (b .delay) u x (x .state))
-  pub slot-fits : Claims (kindRow (b .n) (b .parents) y (y .kind))
+  pub slot-fits : Claims (kindRowOn b y (y .kind))
   pub pending-here : pendingIn u y (y .kind) + oneIf (unitAt b u .suspended) ≡ pendingIn u (slotAt b s) (slotAt b s .kind) + oneIf (x .suspended)
   pub pending-else : (i : ℕ) → (i ≡ u → ⊥) → pendingIn i y (y .kind) ≡ pendingIn i (slotAt b s) (slotAt b s .kind)
   pub weight-kept : x .weight + y .weight + b .debt ≡ unitAt b u .weight + slotAt b s .weight + debt
@@ -34,11 +34,11 @@ module _ (b : Board) (h : Sound b) (u s : ℕ) (x : UnitRecord) (y : Slot) (debt
   abbrev new : Board
   new = changed b (set (b .units) u x) (set (b .slots) s y) debt
 
-  new-units : Each (unitRow (b .n) (b .delay)) (set (b .units) u x)
-  new-units = each-set (unitRow (b .n) (b .delay)) (b .units) u x (row-of u (b .n) _ _ (λ l. f .unit-fits) (λ l. absurd (omega arith))) (h .s2-units)
+  new-units : Each (unitRowOn b) (set (b .units) u x)
+  new-units = each-set (unitRowOn b) (b .units) u x (row-of u (b .n) _ _ (λ l. f .unit-fits) (λ l. absurd (omega arith))) (h .s2-units)
 
-  new-slots : Each (slotRow (b .n) (b .m) (b .parents)) (set (b .slots) s y)
-  new-slots = each-set (slotRow (b .n) (b .m) (b .parents)) (b .slots) s y (row-of s (b .m) _ _ (λ l. f .slot-fits) (λ l. absurd (omega arith))) (h .s3-slots)
+  new-slots : Each (slotRowOn b) (set (b .slots) s y)
+  new-slots = each-set (slotRowOn b) (b .slots) s y (row-of s (b .m) _ _ (λ l. f .slot-fits) (λ l. absurd (omega arith))) (h .s3-slots)
 
   pending-sum : (i : ℕ) → pending (set (b .slots) s y) i + pendingIn i (slotAt b s) (slotAt b s .kind) ≡ pending (b .slots) i + pendingIn i y (y .kind)
   unfolding pending
@@ -74,45 +74,47 @@ module _ (b : Board) (h : Sound b) (u s : ℕ) (x : UnitRecord) (y : Slot) (debt
     s5-s6-debt = omega (arith, units-sum, slots-sum, f .weight-kept, f .debt-fits);
   }
 
--- ---- a change of a unit alone, of a slot alone
-pub unit-change : (b : Board) → Sound b → (u : ℕ) (x : UnitRecord) (debt : ℕ) → u < b .n → Claims (stateRow (b .delay) u x (x .state)) → x .suspended ≡ unitAt b u .suspended
-    → x .weight + b .debt ≡ unitAt b u .weight + debt → debt ≤ ceiling → Fits b u 0 x (slotAt b 0) debt
-unit-change b h u x debt l c e w q = record {
+-- ---- a change of a unit alone, of a slot alone: the other stays as it was
+pub unit-change : (b : Board) → Sound b → (u s : ℕ) (x : UnitRecord) (debt : ℕ) → u < b .n → s < b .m → Claims (stateRow (b .delay) u x (x .state)) → x .suspended ≡ unitAt b u .suspended
+    → x .weight + b .debt ≡ unitAt b u .weight + debt → debt ≤ ceiling → Fits b u s x (slotAt b s) debt
+unit-change b h u s x debt l k c e w q = record {
   unit-used = l;
-  slot-used = omega arith;
+  slot-used = k;
   unit-fits = c;
-  slot-fits = slot-row b h 0 (omega arith);
+  slot-fits = slot-row b h s k;
   pending-here = rw e;
   pending-else = λ i n. refl;
   weight-kept = omega arith;
   debt-fits = q;
 }
 
-pub slot-change : (b : Board) → Sound b → (s : ℕ) (y : Slot) (debt : ℕ) → s < b .m → Claims (kindRow (b .n) (b .parents) y (y .kind)) → ((i : ℕ) → pendingIn i y (y .kind) ≡ pendingIn i (slotAt b s) (slotAt b s .kind))
-    → y .weight + b .debt ≡ slotAt b s .weight + debt → debt ≤ ceiling → Fits b 0 s (unitAt b 0) y debt
-slot-change b h s y debt l c e w q = record {
-  unit-used = omega arith;
+pub slot-change : (b : Board) → Sound b → (u s : ℕ) (y : Slot) (debt : ℕ) → u < b .n → s < b .m → Claims (kindRowOn b y (y .kind)) → ((i : ℕ) → pendingIn i y (y .kind) ≡ pendingIn i (slotAt b s) (slotAt b s .kind))
+    → y .weight + b .debt ≡ slotAt b s .weight + debt → debt ≤ ceiling → Fits b u s (unitAt b u) y debt
+slot-change b h u s y debt k l c e w q = record {
+  unit-used = k;
   slot-used = l;
-  unit-fits = unit-row b h 0 (omega arith);
+  unit-fits = unit-row b h u k;
   slot-fits = c;
-  pending-here = rw (e 0);
+  pending-here = rw (e u);
   pending-else = λ i n. e i;
   weight-kept = omega arith;
   debt-fits = q;
 }
 
--- ---- an effect that fits
+-- ---- an effect: a refused one leaves the board as it was; one that fits keeps it sound
+pub refused-applied : (b : Board) (u s k : ℕ) → applied b u s (Refused k) ≡ record { answer = k; board = b }
+unfolding applied
+refused-applied b u s k = rw (set-getD (b .units) u blankUnit, set-getD (b .slots) s blankSlot)
+
 abbrev pub FitsEffect : Board → ℕ → ℕ → Effect → Type 0
 FitsEffect b u s (Refused k) = Unit {0}
-FitsEffect b u s (OnUnit x debt) = Fits b u 0 x (slotAt b 0) debt
-FitsEffect b u s (OnSlot y debt) = Fits b 0 s (unitAt b 0) y debt
+FitsEffect b u s (OnUnit x debt) = Fits b u s x (slotAt b s) debt
+FitsEffect b u s (OnSlot y debt) = Fits b u s (unitAt b u) y debt
 FitsEffect b u s (OnBoth x y debt) = Fits b u s x y debt
 
 pub effect-sound : (b : Board) → Sound b → (u s : ℕ) (e : Effect) → FitsEffect b u s e → Sound (applied b u s e .board)
 unfolding applied
-effect-sound b h u s (Refused k) f = h
-effect-sound b h u s (OnUnit x debt) f =
-    subst (λ (ys : List Slot). Sound (changed b (set (b .units) u x) ys debt)) (set-getD (b .slots) 0 blankSlot) (change-sound b h u 0 x (slotAt b 0) debt f)
-effect-sound b h u s (OnSlot y debt) f =
-    subst (λ (us : List UnitRecord). Sound (changed b us (set (b .slots) s y) debt)) (set-getD (b .units) 0 blankUnit) (change-sound b h 0 s (unitAt b 0) y debt f)
+effect-sound b h u s (Refused k) f = subst (λ (o : Outcome). Sound (o .board)) (sym (refused-applied b u s k)) h
+effect-sound b h u s (OnUnit x debt) f = change-sound b h u s x (slotAt b s) debt f
+effect-sound b h u s (OnSlot y debt) f = change-sound b h u s (unitAt b u) y debt f
 effect-sound b h u s (OnBoth x y debt) f = change-sound b h u s x y debt f

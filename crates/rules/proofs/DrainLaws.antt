@@ -1,24 +1,24 @@
 -- Drains from a quiet board: each has at most so many steps as the bound says, and until finished some step makes it one longer.
 use mathlib.Core.Path.{_≡_, refl, sym, ap, subst, _∙_}
-use mathlib.Core.Bool.{Bool, true, false, cond}
+use mathlib.Core.Bool.{true}
 use mathlib.Core.List.{List, [], _∷_}
-use Prim.Native.Nat.{ℕ, zero, suc, _-_, _≤_, _<_}
+use Prim.Native.Nat.{ℕ, zero, suc, _≤_, _<_}
 use native.Mathlib.Nat.{le-trans}
 use native.Mathlib.Omega.{arith}
 use lib.ListN.{length}
-use lib.Dec.{eqb}
 use Rattle.rules.specs.Facts.{Claims, check, fails}
 use Rattle.rules.specs.Words.{isEmpty, isWaiting, unitAt, slotAt, blankUnit, blankSlot}
 use Rattle.rules.specs.Sound.{unitsWeight, slotsWeight, Sound}
-use Rattle.rules.specs.Steps.{grantFits, returned, returnEffect, deliverEffect, recordChecks, applied, step}
+use Rattle.rules.specs.Steps.{grantFits, returnEffect, deliverEffect, checksOn, applied, step}
+use Rattle.rules.specs.Events.{afterAll}
 use Rattle.rules.specs.Lists.{after}
-use Rattle.rules.specs.Drains.{Quiet, Drain}
-use Rattle.rules.specs.Guarantee.{Longer, Drains}
+use Rattle.rules.specs.Drains.{Quiet, DrainStep, Drain, returns, waits, waitStep, wayStep}
+use Rattle.rules.specs.Guarantee.{Fits16, Longer, Drains}
 use Rattle.rules.proofs.FactLaws.{asked}
 use Rattle.rules.proofs.SumLaws.{PartAbove, sum-above}
-use Rattle.rules.proofs.SoundLaws.{below-or-not, unit-past-weight, slot-past-weight}
+use Rattle.rules.proofs.SoundLaws.{below-or-not, root-or-other, unit-past-weight, slot-past-weight}
 use Rattle.rules.proofs.Accepted.{step-does}
-use Rattle.rules.proofs.StepFits.{empty-is, unit-row-as, slot-row-as}
+use Rattle.rules.proofs.EntryLaws.{empty-is, unit-row-as, slot-row-as}
 use Rattle.rules.proofs.ListLaws.{step-keeps-sound, list-keeps-sound}
 use Rattle.rules.proofs.FinishedLaws.{debt-finished}
 use Rattle.rules.proofs.Potential.{potential, not-active, not-work, not-request, not-supply, drain-step-lowers, potential-bound}
@@ -27,7 +27,6 @@ use Rattle.rules.specs.declared.State.the-variants.{Idle, Active, Waitin
 use Rattle.rules.specs.declared.Kind.{Kind}
 use Rattle.rules.specs.declared.Kind.the-variants.{Empty, Work, Return, Request, Supply}
 use Rattle.rules.specs.declared.Action.the-variants.{Deliver, Tick, Release}
-use Rattle.rules.specs.declared.Effect.the-variants.{OnSlot, OnBoth}
 use Rattle.rules.specs.declared.UnitRecord.{UnitRecord}
 use Rattle.rules.specs.declared.Slot.{Slot}
 use Rattle.rules.specs.declared.Board.{Board}
@@ -43,32 +42,27 @@ drain-length b (r ∷ rs) h q z =
     omega (arith, drain-length (step b r .board) rs (step-keeps-sound b r h) (lower .quiet) (z .1), lower .less)
 
 drain-quiet : (b : Board) (rs : List StepRecord) → Sound b → Quiet b → Drain b rs → Quiet (after b rs)
-unfolding Drain after
+unfolding Drain afterAll
 drain-quiet b [] h q z = q
 drain-quiet b (r ∷ rs) h q z = drain-quiet (step b r .board) rs (step-keeps-sound b r h) (drain-step-lowers b h q r (z .0) .quiet) (z .1)
 
 -- ---- on a quiet board with something out, some step is accepted
--- a return that is delivered changes a slot, or a slot and a unit
+-- an effect of a delivered return is no refusal
 return-answer : (b : Board) (u s debt d : ℕ) (x : UnitRecord) (y : Slot) → applied b u s (returnEffect debt d x y) .answer ≡ 0
 unfolding applied
-return-answer b u s debt d x y = by-receiver (eqb (y .to) 0)
-  where
-    by-receiver : (t : Bool) → applied b u s (cond t (OnSlot blankSlot (debt - y .weight)) (OnBoth (returned d x (y .weight) (x .state)) blankSlot debt)) .answer ≡ 0
-    by-receiver true = refl
-    by-receiver false = refl
+return-answer b u s debt d x y = root-or-other (λ z w. applied b u s z .answer ≡ 0) (y .to) 0 _ _ (λ e. refl) (λ l. refl)
 
 module _ (b : Board) (h : Sound b) (q : Quiet b) where
-  abbrev delivery : ℕ → StepRecord
-  delivery s = record { kind = 4; unit = 0; other = 0; slot = s }
-
   deliver-longer : (s : ℕ) → s < b .m → slotAt b s .kind ≡ Return → Longer b
-  deliver-longer s l e = record { next = delivery s; fits = omega (arith, h .s1-sizes, l); drains = (ap (λ (o : Outcome). o .answer) done ∙ return-answer b (slotAt b s .to) s (b .debt) (b .delay) (unitAt b (slotAt b s .to)) (slotAt b s), refl) }
+  deliver-longer s l e = record { way = returns s; there = (l, e); fits = omega (arith, h .s1-sizes, l); drains = (ap (λ (o : Outcome). o .answer) done ∙ return-answer b (slotAt b s .to) s (b .debt) (b .delay) (unitAt b (slotAt b s .to)) (slotAt b s), refl) }
     where
-      checks : Claims (asked (recordChecks (b .debt) (unitAt b (slotAt b s .to)) (slotAt b s) Deliver))
+      checks : Claims (asked (checksOn b (wayStep b (returns s)) Deliver))
       checks = subst (λ (k : Kind). Claims (asked (check (fails (isEmpty k)) 35 ∷ grantFits (b .debt) k))) (sym e) (refl, tt)
 
-      done : step b (delivery s) ≡ applied b (slotAt b s .to) s (deliverEffect (b .debt) (b .delay) (unitAt b (slotAt b s .to)) (slotAt b s) Return)
-      done = subst (λ (k : Kind). step b (delivery s) ≡ applied b (slotAt b s .to) s (deliverEffect (b .debt) (b .delay) (unitAt b (slotAt b s .to)) (slotAt b s) k)) e (step-does b (delivery s) h Deliver refl (l, tt) checks)
+      done : step b (wayStep b (returns s)) ≡ applied b (slotAt b s .to) s (deliverEffect (b .debt) (b .delay) (unitAt b (slotAt b s .to)) (slotAt b s) Return)
+      done =
+          subst (λ (k : Kind). step b (wayStep b (returns s)) ≡ applied b (slotAt b s .to) s (deliverEffect (b .debt) (b .delay) (unitAt b (slotAt b s .to)) (slotAt b s) k)) e
+          (step-does b (wayStep b (returns s)) h Deliver refl (l, tt) checks)
 
   -- a filled slot is a return; with slot 0 empty a waiting unit can tick or be released
   slot-longer : (s : ℕ) → s < b .m → (isEmpty (slotAt b s .kind) ≡ true → Longer b) → Longer b
@@ -83,22 +77,19 @@ module _ (b : Board) (h : Sound b) (q : Quiet b) where
 
   waiting-longer : (i : ℕ) → i < b .n → unitAt b i .state ≡ Waiting → isEmpty (slotAt b 0 .kind) ≡ true → Longer b
   unfolding applied
-  waiting-longer i l e free = by-countdown (unitAt b i .countdown) refl
+  waiting-longer i l e free = record { way = waits i; there = (l, e, empty-is _ free); fits = fits (unitAt b i .countdown); drains = drains (unitAt b i .countdown) refl }
     where
-      waits : isWaiting (unitAt b i .state) ≡ true
-      waits = ap isWaiting e
+      fits : (k : ℕ) → Fits16 (waitStep i k)
+      fits zero = omega (arith, h .s1-sizes, l)
+      fits (suc k) = omega (arith, h .s1-sizes, l)
 
-      by-countdown : (k : ℕ) → unitAt b i .countdown ≡ k → Longer b
-      by-countdown zero z = record {
-        next = record { kind = 7; unit = i; other = 0; slot = 0 };
-        fits = omega (arith, h .s1-sizes, l);
-        drains = (ap (λ (o : Outcome). o .answer) (step-does b (record { kind = 7; unit = i; other = 0; slot = 0 }) h Release refl (l, (omega (arith, h .s1-sizes), tt)) (waits, (z, (free, tt)))), refl);
-      }
-      by-countdown (suc k) z = record {
-        next = record { kind = 6; unit = i; other = 0; slot = 0 };
-        fits = omega (arith, h .s1-sizes, l);
-        drains = (ap (λ (o : Outcome). o .answer) (step-does b (record { kind = 6; unit = i; other = 0; slot = 0 }) h Tick refl (l, tt) (waits, (omega (arith, z), tt))), refl);
-      }
+      accepted : (k : ℕ) → unitAt b i .countdown ≡ k → step b (waitStep i k) .answer ≡ 0
+      accepted zero z = ap (λ (o : Outcome). o .answer) (step-does b (waitStep i 0) h Release refl (l, (omega (arith, h .s1-sizes), tt)) (ap isWaiting e, (z, (free, tt))))
+      accepted (suc k) z = ap (λ (o : Outcome). o .answer) (step-does b (waitStep i (suc k)) h Tick refl (l, tt) (ap isWaiting e, (omega (arith, z), tt)))
+
+      drains : (k : ℕ) → unitAt b i .countdown ≡ k → DrainStep b (waitStep i k)
+      drains zero z = (accepted zero z, refl)
+      drains (suc k) z = (accepted (suc k) z, refl)
 
   -- a unit with weight is waiting, since none is active
   unit-longer : (i : ℕ) → 1 ≤ unitAt b i .weight → isEmpty (slotAt b 0 .kind) ≡ true → Longer b

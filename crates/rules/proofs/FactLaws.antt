@@ -6,8 +6,9 @@ use Prim.Native.Nat.{ℕ, zero, suc, _<_}
 use native.Mathlib.Nat.{le-of-suc-le-suc, not-suc-le-zero}
 use native.Mathlib.Omega.{arith}
 use lib.ListN.{length, getD, set}
+use lib.Dec.{eqb}
 use borrow.Author.Tests.{leb-true, le-leb, eqb-true, eq-eqb, not-true}
-use Rattle.rules.specs.Facts.{Fact, below, atMost, equal, holds, fails, Claim, test, Claims, tests, Each, each, Check, check, judge}
+use Rattle.rules.specs.Facts.{Fact, below, atMost, equal, holds, fails, Claim, test, Claims, tests, Each, each, sameList, Check, check, judge}
 
 pub and-left : (s t : Bool) → s && t ≡ true → s ≡ true
 and-left true t e = refl
@@ -28,6 +29,19 @@ true-not-false e = let o : _≡_ {A = ℕ} 0 1 = cc in omega arith
 pub true-or-false : (t : Bool) → (t ≡ false → ⊥) → t ≡ true
 true-or-false true n = refl
 true-or-false false n = absurd (n refl)
+
+-- ---- two lists of numbers
+pub same-itself : (v : List ℕ) → sameList v v ≡ true
+unfolding sameList
+same-itself [] = refl
+same-itself (d ∷ v) = rw (eq-eqb d d refl, same-itself v)
+
+pub same-is : (w v : List ℕ) → sameList w v ≡ true → w ≡ v
+unfolding sameList
+same-is [] [] e = refl
+same-is [] (d ∷ v) e = absurd (true-not-false (sym e))
+same-is (c ∷ w) [] e = absurd (true-not-false (sym e))
+same-is (c ∷ w) (d ∷ v) e = rw (eqb-true c d (and-left (eqb c d) (sameList w v) e), same-is w v (and-right (eqb c d) (sameList w v) e))
 
 -- ---- a fact
 pub claimed : (f : Fact) → test f ≡ true → Claim f
@@ -88,11 +102,25 @@ abbrev pub asked : List Check → List Fact
 asked [] = []
 asked (check f k ∷ cs) = f ∷ asked cs
 
--- where all of them hold, the result; two rows one after the other are one
+-- where all of them hold, the result
 pub judge-passed : {A : Type 0} (refused : ℕ → A) (cs : List Check) (result : A) → Claims (asked cs) → judge refused cs result ≡ result
 judge-passed refused [] result h = refl
 judge-passed refused (check f k ∷ cs) result h = subst (λ (t : Bool). cond t (judge refused cs result) (refused k) ≡ result) (sym (tested f (h .0))) (judge-passed refused cs result (h .1))
 
-pub judge-append : {A : Type 0} (refused : ℕ → A) (cs ds : List Check) (result : A) → judge refused (cs ++ ds) result ≡ judge refused cs (judge refused ds result)
-judge-append refused [] ds result = refl
-judge-append refused (check f k ∷ cs) ds result = ap (λ (x : _). cond (test f) x (refused k)) (judge-append refused cs ds result)
+-- two rows one after the other
+pub claims-append : (cs ds : List Check) → Claims (asked cs) → Claims (asked ds) → Claims (asked (cs ++ ds))
+claims-append [] ds p q = q
+claims-append (check f k ∷ cs) ds p q = (p .0, claims-append cs ds (p .1) q)
+
+-- the fact that a number refuses by: that of the first check with the number
+abbrev pub factBy : ℕ → List Check → Fact
+factBy k [] = holds true
+factBy k (check f j ∷ cs) = cond (eqb j k) f (factBy k cs)
+
+pub fact-shown : (k : ℕ) (cs : List Check) → Claims (asked cs) → Claim (factBy k cs)
+fact-shown k [] h = refl
+fact-shown k (check f j ∷ cs) h = by-test (eqb j k) (fact-shown k cs (h .1))
+  where
+    by-test : (t : Bool) → Claim (factBy k cs) → Claim (cond t f (factBy k cs))
+    by-test true others = h .0
+    by-test false others = others

@@ -7,24 +7,18 @@ use native.Mathlib.Omega.{arith}
 use lib.Dec.{eqb}
 use borrow.Author.Tests.{eqb-true, eq-eqb}
 use Rattle.rules.specs.Facts.{oneIf}
-use Rattle.rules.specs.Words.{isIdle, unitAt, slotAt, blankUnit, blankSlot}
+use Rattle.rules.specs.Words.{unitAt, slotAt, blankUnit, blankSlot}
 use Rattle.rules.specs.Sound.{unitsWeight, slotsWeight, Sound, sound}
 use Rattle.rules.specs.Finished.{toldFrom, verdict, Complete}
 use Rattle.rules.proofs.SumLaws.{sum-none}
-use Rattle.rules.proofs.SoundLaws.{sound-claims, sound-tested, below-or-not, unit-past, unit-past-weight, slot-past, slot-past-weight, unit-weight, slot-weight}
-use Rattle.rules.proofs.StepFits.{empty-is, unit-row-as, slot-row-as, pending-as, suspended-active, pending-suspended}
-use Rattle.rules.specs.declared.State.{State}
-use Rattle.rules.specs.declared.State.the-variants.{Idle, Active, Waiting}
+use Rattle.rules.proofs.SoundLaws.{sound-claims, sound-tested, below-or-not, unit-past, unit-past-weight, slot-past, slot-past-weight, slot-in-debt}
+use Rattle.rules.proofs.EntryLaws.{idle-is, empty-is, unit-row-as, slot-row-as, pending-as, suspended-active, pending-suspended, idle-at-zero}
+use Rattle.rules.specs.declared.State.the-variants.{Idle}
 use Rattle.rules.specs.declared.Kind.{Kind}
 use Rattle.rules.specs.declared.Kind.the-variants.{Empty, Work, Return, Request, Supply}
 use Rattle.rules.specs.declared.Board.{Board}
 use Rattle.rules.specs.declared.Verdict.{Verdict}
 use Rattle.rules.specs.declared.Verdict.the-variants.{Working, Finished, Refused}
-
-pub idle-is : (k : State) → isIdle k ≡ true → k ≡ Idle
-idle-is Idle e = refl
-idle-is Active e = cc
-idle-is Waiting e = cc
 
 -- the verdict on a sound board is told from the debt
 pub verdict-sound : (b : Board) → Sound b → verdict b ≡ toldFrom (b .debt)
@@ -45,24 +39,12 @@ pub debt-finished : (b : Board) → Sound b → b .debt ≡ 0 → verdict b ≡ 
 debt-finished b h e = verdict-sound b h ∙ ap (λ (t : Bool). cond t Finished Working) (eq-eqb (b .debt) 0 e)
 
 module _ (b : Board) (h : Sound b) where
-  -- with nothing out, a unit in use has no weight, so it is neither active nor waiting
-  idle-in-use : b .debt ≡ 0 → (i : ℕ) → i < b .n → unitAt b i .state ≡ Idle
-  idle-in-use e i l = by-state (unitAt b i .state) refl
-    where
-      none : unitAt b i .weight ≡ 0
-      none = omega (arith, unit-weight b h i (omega (arith, h .s1-sizes, l)), h .s5-s6-debt, e)
-
-      by-state : (k : State) → unitAt b i .state ≡ k → unitAt b i .state ≡ Idle
-      by-state Idle q = q
-      by-state Active q = absurd (omega (arith, unit-row-as b h i Active l q, none))
-      by-state Waiting q = absurd (omega (arith, unit-row-as b h i Waiting l q, none))
-
   -- a slot with no weight that is not empty is a request, whose sender is suspended, so active
   empty-in-use : b .debt ≡ 0 → (j : ℕ) → j < b .m → slotAt b j .kind ≡ Empty
   empty-in-use e j l = by-kind (slotAt b j .kind) refl
     where
       none : slotAt b j .weight ≡ 0
-      none = omega (arith, slot-weight b h j (omega (arith, h .s1-sizes, l)), h .s5-s6-debt, e)
+      none = omega (arith, slot-in-debt b h j l, e)
 
       by-kind : (k : Kind) → slotAt b j .kind ≡ k → slotAt b j .kind ≡ Empty
       by-kind Empty q = q
@@ -71,13 +53,13 @@ module _ (b : Board) (h : Sound b) where
       by-kind Request q =
           let row = slot-row-as b h j Request l q in
           let active = suspended-active b h (slotAt b j .from) (row .0) (pending-suspended b h j (slotAt b j .from) l (row .0) (pending-as _ (slotAt b j) Request q ∙ ap oneIf (eq-eqb (slotAt b j .from) (slotAt b j .from) refl))) in
-          let idle = idle-in-use e (slotAt b j .from) (row .0) in
+          let idle = idle-at-zero b h e (slotAt b j .from) (row .0) in
           cc
       by-kind Supply q = absurd (omega (arith, slot-row-as b h j Supply l q, none))
 
   complete-of : b .debt ≡ 0 → Complete b
   complete-of e = record {
-    idle = λ i. below-or-not i (b .n) (idle-in-use e i) (λ l. idle-is (unitAt b i .state) (unit-past b h i l));
+    idle = λ i. below-or-not i (b .n) (idle-at-zero b h e i) (λ l. idle-is (unitAt b i .state) (unit-past b h i l));
     empty = λ j. below-or-not j (b .m) (empty-in-use e j) (λ l. empty-is (slotAt b j .kind) (slot-past b h j l));
   }
 

@@ -9,8 +9,8 @@ use lib.ListN.{length, getD, replicate, length-append, length-replicate, getD-re
 use lib.Seq.{getD-append-add}
 use Rattle.rules.specs.Facts.{Claims, Each, below}
 use Rattle.rules.specs.Words.{blankUnit, blankSlot}
-use Rattle.rules.specs.Sound.{parentRow, unitRow, slotRow, pendingRow, pendingIn, pending, unitsWeight, slotsWeight, Sound, sound}
-use Rattle.rules.specs.Opening.{lowerParents, openingChecks, fresh, blankBoard, opening}
+use Rattle.rules.specs.Sound.{parentRow, pendingRow, pendingIn, pending, unitsWeight, slotsWeight, Sound, sound, slotRowOn, unitRowOn}
+use Rattle.rules.specs.Opening.{lowerParents, openingChecks, fresh, blankBoard, refusedBy, opening}
 use Rattle.rules.proofs.FactLaws.{asked, each-claims, each-at, each-of, judge-passed}
 use Rattle.rules.proofs.SumLaws.{sum-none}
 use Rattle.rules.proofs.SoundLaws.{row-of}
@@ -19,9 +19,6 @@ use Rattle.rules.specs.declared.UnitRecord.{UnitRecord}
 use Rattle.rules.specs.declared.Slot.{Slot}
 use Rattle.rules.specs.declared.Board.{Board}
 use Rattle.rules.specs.declared.Outcome.{Outcome}
-
-abbrev refusedBy : ℕ → Outcome
-refusedBy k = record { answer = k; board = blankBoard }
 
 abbrev opened : ℕ → ℕ → List ℕ → Outcome
 opened m d ps = record { answer = 0; board = fresh m d ps }
@@ -73,10 +70,10 @@ module _ (m d : ℕ) (ps : List ℕ) (c : Claims (asked (openingChecks m d ps)))
   fresh-sound = record {
     s1-sizes = omega (arith, rest-length, length-replicate 64 blankUnit, length-replicate 256 blankSlot, c);
     s1-parents = parents-rows;
-    s2-units = each-of (unitRow (b .n) (b .delay)) (b .units) blankUnit
-        (λ i l. blank-at 64 i blankUnit (λ (u : UnitRecord). Claims (unitRow (b .n) (b .delay) i u)) l (row-of i (b .n) _ _ (λ p. (refl, (refl, (refl, tt)))) (λ p. (refl, (refl, (refl, (refl, tt)))))));
-    s3-slots = each-of (slotRow (b .n) (b .m) (b .parents)) (b .slots) blankSlot
-        (λ j l. blank-at 256 j blankSlot (λ (y : Slot). Claims (slotRow (b .n) (b .m) (b .parents) j y)) l (row-of j (b .m) _ _ (λ p. (refl, (refl, (refl, tt)))) (λ p. (refl, (refl, (refl, (refl, tt)))))));
+    s2-units = each-of (unitRowOn b) (b .units) blankUnit
+        (λ i l. blank-at 64 i blankUnit (λ (u : UnitRecord). Claims (unitRowOn b i u)) l (row-of i (b .n) _ _ (λ p. (refl, (refl, (refl, tt)))) (λ p. (refl, (refl, (refl, (refl, tt)))))));
+    s3-slots = each-of (slotRowOn b) (b .slots) blankSlot
+        (λ j l. blank-at 256 j blankSlot (λ (y : Slot). Claims (slotRowOn b j y)) l (row-of j (b .m) _ _ (λ p. (refl, (refl, (refl, tt)))) (λ p. (refl, (refl, (refl, (refl, tt)))))));
     s4-pending = each-of (pendingRow b) (b .units) blankUnit
         (λ i l. blank-at 64 i blankUnit (λ (u : UnitRecord). Claims (pendingRow b i u)) l
         (sum-none (λ j y. pendingIn i y (y .kind)) (b .slots) blankSlot (λ j q. blank-at 256 j blankSlot (λ (y : Slot). pendingIn i y (y .kind) ≡ 0) q refl), tt));

@@ -2,11 +2,13 @@ pub mod FactLaws
 pub mod JudgeLaws
 pub mod SumLaws
 pub mod SoundLaws
+pub mod EntryLaws
 pub mod Changes
 pub mod Accepted
 pub mod StepFits
 pub mod FreshSound
 pub mod AcceptedChanges
+pub mod EventLaws
 pub mod ListLaws
 pub mod FinishedLaws
 pub mod DepthLaws

@@ -1,29 +1,27 @@
 -- The potential of a board: with no unit active and no work under way, each accepted step but a start lowers it by at least 1, and
 -- it is at most the bound on drains.
 use mathlib.Core.Path.{_≡_, refl, sym, ap, subst, _∙_}
-use mathlib.Core.Bool.{Bool, true, false, cond}
+use mathlib.Core.Bool.{true, false}
 use mathlib.Core.List.{List, [], _∷_}
-use Prim.Native.Nat.{ℕ, zero, suc, _+_, _-_, _*_, _≤_, _<_}
+use Prim.Native.Nat.{ℕ, zero, suc, _+_, _*_, _≤_, _<_}
 use native.Mathlib.Nat.{add-mul, mul-suc, mul-le-mul-left}
 use native.Mathlib.Omega.{arith}
 use lib.ListN.{getD, set}
-use lib.Seq.{set-getD}
-use lib.Dec.{eqb}
-use borrow.Author.Tests.{eqb-false, eq-eqb}
+use borrow.Author.Tests.{eq-eqb}
 use Rattle.rules.specs.Facts.{sumOf, oneIf}
 use Rattle.rules.specs.Words.{isIdle, isEmpty, isActive, isWaiting, isWork, isReturn, parentAt, unitAt, slotAt, blankUnit, blankSlot}
 use Rattle.rules.specs.Sound.{pendingIn, Sound}
 use Rattle.rules.specs.Depths.{depth, greatestDepth}
 use Rattle.rules.specs.Actions.{actionOf}
 use Rattle.rules.specs.Letters.{slotOf}
-use Rattle.rules.specs.Steps.{message, waitingWith, returned, unitOf, returnEffect, deliverEffect, tickEffect, releaseEffect, recordEffect, changed, applied, step}
+use Rattle.rules.specs.Steps.{message, waitingWith, returned, unitOf, returnEffect, deliverEffect, doneOn, changed, applied, step}
 use Rattle.rules.specs.Lists.{startBy}
 use Rattle.rules.specs.Drains.{Quiet, DrainStep, waitingUnits, returnsUnderWay, drainBound}
 use Rattle.rules.proofs.FactLaws.{true-not-false}
 use Rattle.rules.proofs.SumLaws.{sum-set, sum-bound}
-use Rattle.rules.proofs.SoundLaws.{below-or-not, parent-below, unit-past, slot-past}
-use Rattle.rules.proofs.Accepted.{AcceptedAs, accepted-as}
-use Rattle.rules.proofs.StepFits.{waiting-is, unit-row-as, slot-row-as, pending-as, suspended-active, pending-suspended}
+use Rattle.rules.proofs.SoundLaws.{below-or-not, root-or-other, parent-below, unit-past, slot-past}
+use Rattle.rules.proofs.Accepted.{AcceptedAs, shown, accepted-as}
+use Rattle.rules.proofs.EntryLaws.{waiting-is, unit-row-as, slot-row-as, pending-as, suspended-active, pending-suspended}
 use Rattle.rules.proofs.DepthLaws.{depth-at-most, deeper-than-parent}
 use Rattle.rules.specs.declared.State.{State}
 use Rattle.rules.specs.declared.State.the-variants.{Idle, Active, Waiting}
@@ -31,7 +29,7 @@ use Rattle.rules.specs.declared.Kind.{Kind}
 use Rattle.rules.specs.declared.Kind.the-variants.{Empty, Work, Return, Request, Supply}
 use Rattle.rules.specs.declared.Action.{Action}
 use Rattle.rules.specs.declared.Action.the-variants.{Unknown, Start, Send, Request as RequestStep, Deliver, Rest, Tick, Release}
-use Rattle.rules.specs.declared.Effect.the-variants.{OnSlot, OnBoth}
+use Rattle.rules.specs.declared.Effect.{Effect}
 use Rattle.rules.specs.declared.UnitRecord.{UnitRecord}
 use Rattle.rules.specs.declared.Slot.{Slot}
 use Rattle.rules.specs.declared.Board.{Board}
@@ -96,15 +94,13 @@ module _ (b : Board) (h : Sound b) (q : Quiet b) where
     );
   }
 
-  lower-unit : (u : ℕ) (x : UnitRecord) (debt : ℕ) → u < b .n → isActive (x .state) ≡ false → worthOf u x + 1 ≤ worthOf u (unitAt b u) → Lower b (changed b (set (b .units) u x) (b .slots) debt)
-  lower-unit u x debt l a w =
-      subst (λ (ys : List Slot). Lower b (changed b (set (b .units) u x) ys debt)) (set-getD (b .slots) 0 blankSlot)
-      (lower-both u 0 x (slotAt b 0) debt l (omega (arith, h .s1-sizes)) a (q .no-work 0) (omega (arith, w)))
+  lower-unit : (u s : ℕ) (x : UnitRecord) (debt : ℕ) → u < b .n → s < b .m → isActive (x .state) ≡ false → worthOf u x + 1 ≤ worthOf u (unitAt b u)
+      → Lower b (changed b (set (b .units) u x) (set (b .slots) s (slotAt b s)) debt)
+  lower-unit u s x debt l k a w = lower-both u s x (slotAt b s) debt l k a (q .no-work s) (omega (arith, w))
 
-  lower-slot : (s : ℕ) (y : Slot) (debt : ℕ) → s < b .m → isWork (y .kind) ≡ false → slotWorthOf y + 1 ≤ slotWorthOf (slotAt b s) → Lower b (changed b (b .units) (set (b .slots) s y) debt)
-  lower-slot s y debt l a w =
-      subst (λ (us : List UnitRecord). Lower b (changed b us (set (b .slots) s y) debt)) (set-getD (b .units) 0 blankUnit)
-      (lower-both 0 s (unitAt b 0) y debt (omega (arith, h .s1-sizes)) l (q .none-active 0) a (omega (arith, w)))
+  lower-slot : (u s : ℕ) (y : Slot) (debt : ℕ) → u < b .n → s < b .m → isWork (y .kind) ≡ false → slotWorthOf y + 1 ≤ slotWorthOf (slotAt b s)
+      → Lower b (changed b (set (b .units) u (unitAt b u)) (set (b .slots) s y) debt)
+  lower-slot u s y debt l k a w = lower-both u s (unitAt b u) y debt l k (q .none-active u) a (omega (arith, w))
 
   -- no unit is active, so none is suspended, and no request and no supply is under way
   pub not-active : (i : ℕ) → unitAt b i .state ≡ Active → ⊥
@@ -132,19 +128,23 @@ module _ (b : Board) (h : Sound b) (q : Quiet b) where
 
   -- ---- the steps that can be accepted
   module _ (r : StepRecord) where
-    tick-lower : AcceptedAs b r Tick → Lower b (applied b (r .unit) 0 (tickEffect (b .debt) (unitAt b (r .unit))) .board)
+    -- the board after an effect at these places
+    abbrev LowerBy : ℕ → ℕ → Effect → Type 0
+    LowerBy u s e = Lower b (applied b u s e .board)
+
+    tick-lower : AcceptedAs b r Tick → LowerBy (r .unit) 0 (doneOn b r Tick)
     unfolding applied
     tick-lower c =
-        let waiting = waiting-is (unitAt b (r .unit) .state) (c .records .0) in
-        lower-unit (r .unit) _ (b .debt) (c .places .0) (q .none-active (r .unit)) (rw waiting (omega (arith, c .records)))
+        let waiting = waiting-is (unitAt b (r .unit) .state) (shown 38 c) in
+        lower-unit (r .unit) 0 _ (b .debt) (shown 13 c) (omega (arith, h .s1-sizes)) (q .none-active (r .unit)) (rw waiting (omega (arith, shown 39 c)))
 
-    release-lower : AcceptedAs b r Release → Lower b (applied b (r .unit) (r .slot) (releaseEffect (b .debt) (r .unit) (parentAt b (r .unit)) (unitAt b (r .unit))) .board)
+    release-lower : AcceptedAs b r Release → LowerBy (r .unit) (r .slot) (doneOn b r Release)
     unfolding applied
     release-lower c =
-        lower-both (r .unit) (r .slot) blankUnit (message Return (r .unit) (parentAt b (r .unit)) (unitAt b (r .unit) .weight)) (b .debt) (c .places .0) (c .places .1 .0) refl refl
-        (omega (arith, worth-as (r .unit) Waiting (waiting-is _ (c .records .0))))
+        lower-both (r .unit) (r .slot) blankUnit (message Return (r .unit) (parentAt b (r .unit)) (unitAt b (r .unit) .weight)) (b .debt) (shown 13 c) (shown 14 c) refl refl
+        (omega (arith, worth-as (r .unit) Waiting (waiting-is _ (shown 38 c))))
 
-    -- a return reaches unit 0, or it makes an idle or waiting unit wait anew, one less deep
+    -- a return reaches unit 0, or it makes an idle or waiting unit wait, one less deep
     module _ (c : AcceptedAs b r Deliver) (e : slotAt b (r .slot) .kind ≡ Return) where
       abbrev y : Slot
       y = slotAt b (r .slot)
@@ -157,51 +157,50 @@ module _ (b : Board) (h : Sound b) (q : Quiet b) where
 
       receiver-used : v < b .n
       receiver-used =
-          let row = slot-row-as b h (r .slot) Return (c .places .0) e in
+          let row = slot-row-as b h (r .slot) Return (shown 14 c) e in
           omega (arith, row, parent-below b h (y .from) (row .0) (row .1 .0))
 
       one-deeper : 1 ≤ v → (b .delay + 2) * depth (b .parents) v ≡ (b .delay + 2) * depth (b .parents) (parentAt b v) + (b .delay + 2)
       one-deeper l = ap (λ (k : ℕ). (b .delay + 2) * k) (deeper-than-parent b h v l receiver-used) ∙ mul-suc (b .delay + 2) (depth (b .parents) (parentAt b v))
 
-      inner-lower : 1 ≤ v → Lower b (changed b (set (b .units) v (waitingWith (x .weight + y .weight) (b .delay))) (set (b .slots) (r .slot) blankSlot) (b .debt))
-      inner-lower l = lower-both v (r .slot) (waitingWith (x .weight + y .weight) (b .delay)) blankSlot (b .debt) receiver-used (c .places .0) refl refl (omega (arith, one-deeper l, slot-worth-as (r .slot) Return e))
+      -- whatever its countdown is then: at most the delay
+      waits-lower : (k : ℕ) → k ≤ b .delay → 1 ≤ v → Lower b (changed b (set (b .units) v (waitingWith (x .weight + y .weight) k)) (set (b .slots) (r .slot) blankSlot) (b .debt))
+      waits-lower k p l =
+          lower-both v (r .slot) (waitingWith (x .weight + y .weight) k) blankSlot (b .debt) receiver-used (shown 14 c) refl refl (omega (arith, one-deeper l, slot-worth-as (r .slot) Return e))
 
-      return-lower : Lower b (applied b v (r .slot) (returnEffect (b .debt) (b .delay) x y) .board)
+      returned-lower : 1 ≤ v → (k : State) → x .state ≡ k → Lower b (changed b (set (b .units) v (returned (b .delay) x (y .weight) k)) (set (b .slots) (r .slot) blankSlot) (b .debt))
+      returned-lower l Idle z = waits-lower (b .delay) (omega arith) l
+      returned-lower l Active z = absurd (not-active v z)
+      returned-lower l Waiting z = waits-lower (b .delay) (omega arith) l
+
+      return-lower : LowerBy v (r .slot) (returnEffect (b .debt) (b .delay) x y)
       unfolding applied
-      return-lower = by-receiver (eqb v 0) refl
-        where
-          by-state : 1 ≤ v → (k : State) → x .state ≡ k → Lower b (changed b (set (b .units) v (returned (b .delay) x (y .weight) k)) (set (b .slots) (r .slot) blankSlot) (b .debt))
-          by-state l Idle z = inner-lower l
-          by-state l Active z = absurd (not-active v z)
-          by-state l Waiting z = inner-lower l
+      return-lower =
+          root-or-other (λ z w. LowerBy v (r .slot) z) v 0 _ _ (λ z. lower-slot v (r .slot) blankSlot _ receiver-used (shown 14 c) refl (omega (arith, slot-worth-as (r .slot) Return e)))
+          (λ l. returned-lower l (x .state) refl)
 
-          by-receiver : (t : Bool) → eqb v 0 ≡ t → Lower b (applied b v (r .slot) (cond t (OnSlot blankSlot (b .debt - y .weight)) (OnBoth (returned (b .delay) x (y .weight) (x .state)) blankSlot (b .debt))) .board)
-          by-receiver true z = lower-slot (r .slot) blankSlot _ (c .places .0) refl (omega (arith, slot-worth-as (r .slot) Return e))
-          by-receiver false z = by-state (omega (arith, eqb-false v 0 z)) (x .state) refl
-
-    deliver-lower : AcceptedAs b r Deliver → Lower b (applied b (slotAt b (r .slot) .to) (r .slot) (deliverEffect (b .debt) (b .delay) (unitAt b (slotAt b (r .slot) .to)) (slotAt b (r .slot)) (slotAt b (r .slot) .kind)) .board)
+    deliver-lower : AcceptedAs b r Deliver → LowerBy (slotAt b (r .slot) .to) (r .slot) (doneOn b r Deliver)
     deliver-lower c = by-kind (slotAt b (r .slot) .kind) refl
       where
-        by-kind : (k : Kind) → slotAt b (r .slot) .kind ≡ k → Lower b (applied b (slotAt b (r .slot) .to) (r .slot) (deliverEffect (b .debt) (b .delay) (unitAt b (slotAt b (r .slot) .to)) (slotAt b (r .slot)) k) .board)
-        by-kind Empty e = absurd (true-not-false (sym (ap isEmpty e) ∙ c .records .0))
+        by-kind : (k : Kind) → slotAt b (r .slot) .kind ≡ k → LowerBy (slotAt b (r .slot) .to) (r .slot) (deliverEffect (b .debt) (b .delay) (unitAt b (slotAt b (r .slot) .to)) (slotAt b (r .slot)) k)
+        by-kind Empty e = absurd (true-not-false (sym (ap isEmpty e) ∙ shown 35 c))
         by-kind Work e = absurd (not-work (r .slot) e)
         by-kind Return e = return-lower c e
-        by-kind Request e = absurd (not-request (r .slot) (c .places .0) e)
-        by-kind Supply e = absurd (not-supply (r .slot) (c .places .0) e)
+        by-kind Request e = absurd (not-request (r .slot) (shown 14 c) e)
+        by-kind Supply e = absurd (not-supply (r .slot) (shown 14 c) e)
 
     -- an active unit is asked for, and there is none
     no-active : isActive (unitAt b (r .unit) .state) ≡ true → ⊥
     no-active e = true-not-false (sym e ∙ q .none-active (r .unit))
 
-    lower-as : (a : Action) → AcceptedAs b r a → step b r .answer ≡ 0 → startBy a ≡ 0
-        → Lower b (applied b (unitOf b r a) (slotOf r a) (recordEffect (b .debt) (b .delay) r (unitAt b (unitOf b r a)) (parentAt b (unitOf b r a)) (slotAt b (slotOf r a)) a) .board)
+    lower-as : (a : Action) → AcceptedAs b r a → step b r .answer ≡ 0 → startBy a ≡ 0 → LowerBy (unitOf b r a) (slotOf r a) (doneOn b r a)
     unfolding applied
-    lower-as Unknown c z n = absurd (omega (arith, sym (ap (λ (o : Outcome). o .answer) (c .gives)) ∙ z))
+    lower-as Unknown c z n = absurd (true-not-false (sym (shown 16 c)))
     lower-as Start c z n = absurd (omega (arith, n))
-    lower-as Send c z n = absurd (no-active (c .records .0))
-    lower-as RequestStep c z n = absurd (no-active (c .records .0))
+    lower-as Send c z n = absurd (no-active (shown 31 c))
+    lower-as RequestStep c z n = absurd (no-active (shown 31 c))
     lower-as Deliver c z n = deliver-lower c
-    lower-as Rest c z n = absurd (no-active (c .records .0))
+    lower-as Rest c z n = absurd (no-active (shown 31 c))
     lower-as Tick c z n = tick-lower c
     lower-as Release c z n = release-lower c
 

@@ -5,11 +5,12 @@ use mathlib.Core.List.{List, _∷_}
 use Prim.Native.Nat.{ℕ, zero, suc, _+_, _≤_, _<_}
 use native.Mathlib.Omega.{arith}
 use lib.ListN.{List·getD-eq-default}
-use lib.Dec.{ltb}
-use borrow.Author.Tests.{lt-ltb, le-ltb, ltb-true, ltb-false}
+use lib.Dec.{ltb, eqb}
+use borrow.Author.Tests.{lt-ltb, le-ltb, ltb-true, ltb-false, eqb-true, eqb-false}
 use Rattle.rules.specs.Facts.{Fact, holds, Claims, oneIf}
 use Rattle.rules.specs.Words.{isIdle, isEmpty, blankUnit, blankSlot, parentAt, unitAt, slotAt}
-use Rattle.rules.specs.Sound.{sizes, parentRow, lowerParent, unitRow, stateRow, slotRow, kindRow, pendingRow, pending, debtRow, unitsWeight, slotsWeight, Sound, soundRow, sound}
+use Rattle.rules.specs.Sound.{sizes, parentRow, lowerParent, stateRow, pendingRow, pending, debtRow, unitsWeight, slotsWeight, Sound, soundRow, sound, slotRowOn, kindRowOn, unitRowOn}
+use Rattle.rules.specs.Lists.{takenAt}
 use Rattle.rules.proofs.FactLaws.{claims, claims-tested, each-claims, each-tested, each-at}
 use Rattle.rules.proofs.SumLaws.{sum-part}
 use Rattle.rules.specs.declared.State.the-variants.{Idle}
@@ -26,8 +27,8 @@ sound-claims b e =
     record {
       s1-sizes = claims (sizes b) (t .0);
       s1-parents = each-claims (parentRow (b .n)) (b .parents) (t .1 .0);
-      s2-units = each-claims (unitRow (b .n) (b .delay)) (b .units) (t .1 .1 .0);
-      s3-slots = each-claims (slotRow (b .n) (b .m) (b .parents)) (b .slots) (t .1 .1 .1 .0);
+      s2-units = each-claims (unitRowOn b) (b .units) (t .1 .1 .0);
+      s3-slots = each-claims (slotRowOn b) (b .slots) (t .1 .1 .1 .0);
       s4-pending = each-claims (pendingRow b) (b .units) (t .1 .1 .1 .1 .0);
       s5-s6-debt = claims (debtRow b) (t .1 .1 .1 .1 .1 .0);
     }
@@ -40,9 +41,9 @@ sound-tested b h =
       (
         each-tested (parentRow (b .n)) (b .parents) (h .s1-parents),
         (
-          each-tested (unitRow (b .n) (b .delay)) (b .units) (h .s2-units),
+          each-tested (unitRowOn b) (b .units) (h .s2-units),
           (
-            each-tested (slotRow (b .n) (b .m) (b .parents)) (b .slots) (h .s3-slots),
+            each-tested (slotRowOn b) (b .slots) (h .s3-slots),
             (each-tested (pendingRow b) (b .units) (h .s4-pending), (claims-tested (debtRow b) (h .s5-s6-debt), tt)),
           ),
         ),
@@ -71,6 +72,14 @@ below-or-not {X} i n f g = by-test (ltb i n) refl
     by-test true e = f (ltb-true i n e)
     by-test false e = g (ltb-false i n e)
 
+-- unit 0 or another: of what is done, and of the weight w that unit 0 takes back
+pub root-or-other : {A : Type 0} (P : A → ℕ → Type 0) (u w : ℕ) (x y : A) → (u ≡ 0 → P x w) → (1 ≤ u → P y 0) → P (cond (eqb u 0) x y) (takenAt u w)
+root-or-other {A} P u w x y f g = by-test (eqb u 0) refl
+  where
+    by-test : (t : Bool) → eqb u 0 ≡ t → P (cond t x y) (cond t w 0)
+    by-test true e = f (eqb-true u 0 e)
+    by-test false e = g (omega (arith, eqb-false u 0 e))
+
 -- ---- the entries of a sound board
 module _ (b : Board) (h : Sound b) where
   pub parent-row : (i : ℕ) → i < b .n → Claims (lowerParent i (parentAt b i))
@@ -82,12 +91,12 @@ module _ (b : Board) (h : Sound b) where
   parent-below (suc i) p l = parent-row (suc i) l .0
 
   pub unit-row : (i : ℕ) → i < b .n → Claims (stateRow (b .delay) i (unitAt b i) (unitAt b i .state))
-  unit-row i l = row-in-use i (b .n) (stateRow (b .delay) i (unitAt b i) (unitAt b i .state)) _ l (each-at (unitRow (b .n) (b .delay)) (b .units) i blankUnit (omega arith) (h .s2-units))
+  unit-row i l = row-in-use i (b .n) (stateRow (b .delay) i (unitAt b i) (unitAt b i .state)) _ l (each-at (unitRowOn b) (b .units) i blankUnit (omega arith) (h .s2-units))
 
   -- an entry from n on is blank
   unit-past-row : (i : ℕ) → b .n ≤ i → Claims (holds (isIdle (unitAt b i .state)) ∷ stateRow (b .delay) i (unitAt b i) Idle)
   unit-past-row i l =
-      below-or-not i 64 (λ p. row-past i (b .n) (stateRow (b .delay) i (unitAt b i) (unitAt b i .state)) _ l (each-at (unitRow (b .n) (b .delay)) (b .units) i blankUnit (omega arith) (h .s2-units)))
+      below-or-not i 64 (λ p. row-past i (b .n) (stateRow (b .delay) i (unitAt b i) (unitAt b i .state)) _ l (each-at (unitRowOn b) (b .units) i blankUnit (omega arith) (h .s2-units)))
       (λ p. subst (λ (u : UnitRecord). Claims (holds (isIdle (u .state)) ∷ stateRow (b .delay) i u Idle)) (sym (List·getD-eq-default (b .units) blankUnit (omega arith))) (refl, (refl, (refl, (refl, tt)))))
 
   pub unit-past : (i : ℕ) → b .n ≤ i → isIdle (unitAt b i .state) ≡ true
@@ -96,14 +105,14 @@ module _ (b : Board) (h : Sound b) where
   pub unit-past-weight : (i : ℕ) → b .n ≤ i → unitAt b i .weight ≡ 0
   unit-past-weight i l = unit-past-row i l .1 .0
 
-  pub slot-row : (j : ℕ) → j < b .m → Claims (kindRow (b .n) (b .parents) (slotAt b j) (slotAt b j .kind))
-  slot-row j l = row-in-use j (b .m) (kindRow (b .n) (b .parents) (slotAt b j) (slotAt b j .kind)) _ l (each-at (slotRow (b .n) (b .m) (b .parents)) (b .slots) j blankSlot (omega arith) (h .s3-slots))
+  pub slot-row : (j : ℕ) → j < b .m → Claims (kindRowOn b (slotAt b j) (slotAt b j .kind))
+  slot-row j l = row-in-use j (b .m) (kindRowOn b (slotAt b j) (slotAt b j .kind)) _ l (each-at (slotRowOn b) (b .slots) j blankSlot (omega arith) (h .s3-slots))
 
   -- an entry from M on is blank
-  slot-past-row : (j : ℕ) → b .m ≤ j → Claims (holds (isEmpty (slotAt b j .kind)) ∷ kindRow (b .n) (b .parents) (slotAt b j) Empty)
+  slot-past-row : (j : ℕ) → b .m ≤ j → Claims (holds (isEmpty (slotAt b j .kind)) ∷ kindRowOn b (slotAt b j) Empty)
   slot-past-row j l =
-      below-or-not j 256 (λ p. row-past j (b .m) (kindRow (b .n) (b .parents) (slotAt b j) (slotAt b j .kind)) _ l (each-at (slotRow (b .n) (b .m) (b .parents)) (b .slots) j blankSlot (omega arith) (h .s3-slots)))
-      (λ p. subst (λ (y : Slot). Claims (holds (isEmpty (y .kind)) ∷ kindRow (b .n) (b .parents) y Empty)) (sym (List·getD-eq-default (b .slots) blankSlot (omega arith))) (refl, (refl, (refl, (refl, tt)))))
+      below-or-not j 256 (λ p. row-past j (b .m) (kindRowOn b (slotAt b j) (slotAt b j .kind)) _ l (each-at (slotRowOn b) (b .slots) j blankSlot (omega arith) (h .s3-slots)))
+      (λ p. subst (λ (y : Slot). Claims (holds (isEmpty (y .kind)) ∷ kindRowOn b y Empty)) (sym (List·getD-eq-default (b .slots) blankSlot (omega arith))) (refl, (refl, (refl, (refl, tt)))))
 
   pub slot-past : (j : ℕ) → b .m ≤ j → isEmpty (slotAt b j .kind) ≡ true
   slot-past j l = slot-past-row j l .0
@@ -122,6 +131,12 @@ module _ (b : Board) (h : Sound b) where
   pub slot-weight : (j : ℕ) → j < 256 → slotAt b j .weight ≤ slotsWeight (b .slots)
   unfolding slotsWeight
   slot-weight j l = sum-part (λ k y. y .weight) (b .slots) j blankSlot (omega arith)
+
+  pub unit-in-debt : (i : ℕ) → i < b .n → unitAt b i .weight ≤ b .debt
+  unit-in-debt i l = omega (arith, unit-weight i (omega (arith, h .s1-sizes, l)), h .s5-s6-debt)
+
+  pub slot-in-debt : (j : ℕ) → j < b .m → slotAt b j .weight ≤ b .debt
+  slot-in-debt j l = omega (arith, slot-weight j (omega (arith, h .s1-sizes, l)), h .s5-s6-debt)
 
   pub weights-fit : (i j : ℕ) → i < 64 → j < 256 → unitAt b i .weight + slotAt b j .weight ≤ b .debt
   weights-fit i j p q = omega (arith, unit-weight i p, slot-weight j q, h .s5-s6-debt)

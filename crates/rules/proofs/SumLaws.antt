@@ -43,12 +43,6 @@ sum-bound f g k [] d h = zero-le
 sum-bound f g k (x ∷ xs) d h =
     omega (arith, add-mul (g 0 x) (sumOf (λ i. g (suc i)) xs) k, h 0 (suc-le-suc zero-le), sum-bound (λ i. f (suc i)) (λ i. g (suc i)) k xs d (λ i l. h (suc i) (suc-le-suc l)))
 
--- equal parts, equal sums
-pub sum-same : {A : Type 0} (f g : ℕ → A → ℕ) (xs : List A) (d : A) → ((i : ℕ) → i < length xs → f i (getD xs i d) ≡ g i (getD xs i d)) → sumOf f xs ≡ sumOf g xs
-unfolding sumOf
-sum-same f g [] d h = refl
-sum-same f g (x ∷ xs) d h = omega (arith, h 0 (suc-le-suc zero-le), sum-same (λ i. f (suc i)) (λ i. g (suc i)) xs d (λ i l. h (suc i) (suc-le-suc l)))
-
 -- parts of 0, a sum of 0
 pub sum-none : {A : Type 0} (f : ℕ → A → ℕ) (xs : List A) (d : A) → ((i : ℕ) → i < length xs → f i (getD xs i d) ≡ 0) → sumOf f xs ≡ 0
 sum-none f xs d h = omega (arith, sum-bound f f 0 xs d (λ i l. omega (arith, h i l)))

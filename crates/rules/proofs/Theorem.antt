@@ -9,14 +9,15 @@ use Rattle.rules.specs.Words.{isActive, isWaiting, isWork, isReturn, bla
 use Rattle.rules.specs.Sound.{Sound}
 use Rattle.rules.specs.Depths.{greatestDepth}
 use Rattle.rules.specs.Opening.{fresh, opening}
-use Rattle.rules.specs.Steps.{step}
-use Rattle.rules.specs.Lists.{after}
+use Rattle.rules.specs.Events.{Events, afterAll}
+use Rattle.rules.specs.Lists.{steps, after}
 use Rattle.rules.specs.Finished.{Complete}
 use Rattle.rules.specs.Drains.{Quiet, Drain, waitingUnits, returnsUnderWay, drainBound}
-use Rattle.rules.specs.Guarantee.{Guaranteed, Guarantee, Carries, FinishedAllBack, FinishedRefuses}
+use Rattle.rules.specs.Guarantee.{History, GuaranteedOf, GuaranteeOf, CarriesOf, stepHistory, Guarantee, Carries, FinishedAllBack, FinishedRefuses}
 use Rattle.rules.proofs.SumLaws.{sum-none}
 use Rattle.rules.proofs.FreshSound.{opening-passed, opening-fresh, fresh-sound}
-use Rattle.rules.proofs.ListLaws.{list-keeps-sound, list-account}
+use Rattle.rules.proofs.EventLaws.{after-append}
+use Rattle.rules.proofs.ListLaws.{list-keeps-sound, debt-account}
 use Rattle.rules.proofs.FinishedLaws.{finished-debt, finished-complete}
 use Rattle.rules.proofs.DrainLaws.{quiet-drains}
 use Rattle.rules.specs.declared.State.{State}
@@ -33,7 +34,7 @@ opening-sound m d ps e =
     subst (λ (o : Outcome). (Sound (o .board)) × (o .board .debt ≡ 0)) (sym (opening-fresh m d ps c)) (fresh-sound m d ps c, refl)
 
 pub guarantee : Guarantee
-unfolding Guarantee
+unfolding GuaranteeOf
 guarantee m d ps rs e =
     let f : Board = opening m d ps .board in
     let start = opening-sound m d ps e in
@@ -41,26 +42,24 @@ guarantee m d ps rs e =
     record {
       is-sound = h;
       conserved = h .s5-s6-debt .0;
-      accounted = list-account f rs (start .0) ∙ omega (arith, start .1);
+      accounted = debt-account f rs (start .0) ∙ omega (arith, start .1);
       finished = finished-complete (after f rs) h;
       drains = quiet-drains (after f rs) h;
     }
 
 -- ---- the guarantee as calls carry it
-pub after-append : (b : Board) (qs rs : List StepRecord) → after b (qs ++ rs) ≡ after (after b qs) rs
-unfolding after
-after-append b [] rs = refl
-after-append b (q ∷ qs) rs = after-append (step b q .board) qs rs
+pub events-carry : {E : Type 0} (ev : Events Board E) (h : History E) → GuaranteeOf ev h → (b : Board) (es : List E) → CarriesOf ev h b es (afterAll ev b es)
+unfolding GuaranteeOf
+events-carry ev h g b es m d ps qs e q =
+    let f : Board = opening m d ps .board in
+    subst (λ (c : Board). GuaranteedOf ev h f (qs ++ es) c) (after-append ev f qs es ∙ ap (λ (x : Board). afterAll ev x es) (sym q)) (g m d ps (qs ++ es) e)
 
 pub carries : (b : Board) (rs : List StepRecord) → Carries b rs (after b rs)
-unfolding Guarantee
-carries b rs m d ps qs e q =
-    let f : Board = opening m d ps .board in
-    subst (λ (c : Board). Guaranteed f (qs ++ rs) c) (after-append f qs rs ∙ ap (λ (x : Board). after x rs) (sym q)) (guarantee m d ps (qs ++ rs) e)
+carries = events-carry steps stepHistory guarantee
 
 -- ---- a finished board owes nothing, so what came in was taken back
 pub finished-all-back : FinishedAllBack
-unfolding Guarantee FinishedAllBack
+unfolding GuaranteeOf FinishedAllBack
 finished-all-back m d ps rs e f =
     let g = guarantee m d ps rs e in
     omega (arith, g .accounted, finished-debt (after (opening m d ps .board) rs) (g .is-sound) f)
@@ -81,7 +80,7 @@ complete-bound b c = ap (λ (k : ℕ). k * ((b .delay + 2) * greatestDepth b)) n
     )
 
 pub finished-refuses : FinishedRefuses
-unfolding Guarantee FinishedRefuses Drain
+unfolding GuaranteeOf FinishedRefuses Drain
 finished-refuses m d ps rs r e f n z =
     let b : Board = after (opening m d ps .board) rs in
     let g = guarantee m d ps rs e in

@@ -53,6 +53,13 @@ abbrev pub oneIf : Bool → ℕ
 oneIf true = 1
 oneIf false = 0
 
+-- whether two lists of numbers are the same
+unfoldable pub sameList : List ℕ → List ℕ → Bool
+sameList [] [] = true
+sameList [] (d ∷ ds) = false
+sameList (c ∷ cs) [] = false
+sameList (c ∷ cs) (d ∷ ds) = eqb c d && sameList cs ds
+
 -- a fact that a call asks for, and the number that refuses the call where the fact fails
 pub data Check : Type 0 where
   check : Fact → ℕ → Check

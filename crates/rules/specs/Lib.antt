@@ -7,6 +7,7 @@ pub mod Depths
 pub mod Actions
 pub mod Letters
 pub mod Steps
+pub mod Events
 pub mod Lists
 pub mod Finished
 pub mod Drains

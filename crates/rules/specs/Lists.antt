@@ -1,9 +1,10 @@
 -- A list of steps: the board after it, its answers, and its history, each read on the board just before the step.
 use mathlib.Core.Bool.{Bool, cond, _&&_}
-use mathlib.Core.List.{List, [], _∷_}
-use Prim.Native.Nat.{ℕ, _+_}
+use mathlib.Core.List.{List}
+use Prim.Native.Nat.{ℕ}
 use lib.Dec.{eqb}
 use Rattle.rules.specs.Facts.{oneIf}
+use Rattle.rules.specs.Events.{Events, afterAll, allAnswers, accepts, tallyAll}
 use Rattle.rules.specs.Words.{isReturn, isRequest, unitAt, slotAt}
 use Rattle.rules.specs.Actions.{actionOf, isAction}
 use Rattle.rules.specs.Steps.{step}
@@ -14,23 +15,22 @@ use Rattle.rules.specs.declared.Slot.{Slot}
 use Rattle.rules.specs.declared.Board.{Board}
 use Rattle.rules.specs.declared.StepRecord.{StepRecord}
 
--- each step gets the board that the step before it returned; after a refusal that is the same board
-unfoldable pub after : Board → List StepRecord → Board
-after b [] = b
-after b (r ∷ rs) = after (step b r .board) rs
+-- steps as events: each gets the board that the step before it returned; after a refusal that is the same board
+abbrev pub steps : Events Board StepRecord
+steps = record { next = λ b r. step b r .board; answer = λ b r. step b r .answer }
 
-unfoldable pub answers : Board → List StepRecord → List ℕ
-answers b [] = []
-answers b (r ∷ rs) = step b r .answer ∷ answers (step b r .board) rs
+abbrev pub after : Board → List StepRecord → Board
+after b rs = afterAll steps b rs
 
--- "An accepted step is one that answers 0"
+abbrev pub answers : Board → List StepRecord → List ℕ
+answers b rs = allAnswers steps b rs
+
 abbrev pub accepted : Board → StepRecord → Bool
-accepted b r = eqb (step b r .answer) 0
+accepted b r = accepts steps b r
 
--- the sum over a list of what its accepted steps count for; it never wraps
-unfoldable pub tally : (Board → StepRecord → ℕ) → Board → List StepRecord → ℕ
-tally count b [] = 0
-tally count b (r ∷ rs) = cond (accepted b r) (count b r) 0 + tally count (step b r .board) rs
+-- the sum over a list of what its accepted steps count for
+abbrev pub tally : (Board → StepRecord → ℕ) → Board → List StepRecord → ℕ
+tally count b rs = tallyAll steps count b rs
 
 -- 1 for a start
 abbrev pub startBy : Action → ℕ
@@ -46,15 +46,12 @@ grantBy y a = oneIf (isAction Deliver a && isRequest (y .kind))
 abbrev pub grantCount : Board → StepRecord → ℕ
 grantCount b r = grantBy (slotAt b (r .slot)) (actionOf (r .kind))
 
--- what unit 0 takes back: the weight of a return that a delivery brings it, and the weight of a unit that rests where that is unit 0
-abbrev pub returnTaken : Slot → ℕ
-returnTaken y = cond (isReturn (y .kind) && eqb (y .to) 0) (y .weight) 0
-
-abbrev pub restTaken : ℕ → UnitRecord → ℕ
-restTaken u x = cond (eqb u 0) (x .weight) 0
+-- what unit 0 takes back: all of the weight w where it is unit u that gets it, the receiver of a return or the unit that rests
+abbrev pub takenAt : ℕ → ℕ → ℕ
+takenAt u w = cond (eqb u 0) w 0
 
 abbrev pub takenBy : ℕ → UnitRecord → Slot → Action → ℕ
-takenBy u x y a = cond (isAction Deliver a) (returnTaken y) (cond (isAction Rest a) (restTaken u x) 0)
+takenBy u x y a = cond (isAction Deliver a) (cond (isReturn (y .kind)) (takenAt (y .to) (y .weight)) 0) (cond (isAction Rest a) (takenAt u (x .weight)) 0)
 
 abbrev pub takenCount : Board → StepRecord → ℕ
 takenCount b r = takenBy (r .unit) (unitAt b (r .unit)) (slotAt b (r .slot)) (actionOf (r .kind))

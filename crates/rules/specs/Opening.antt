@@ -46,5 +46,8 @@ blankBoard = record {
   slots = replicate 256 blankSlot;
 }
 
+abbrev pub refusedBy : ℕ → Outcome
+refusedBy k = record { answer = k; board = blankBoard }
+
 unfoldable pub opening : ℕ → ℕ → List ℕ → Outcome
-opening m d ps = judge (λ k. record { answer = k; board = blankBoard }) (openingChecks m d ps) (record { answer = 0; board = fresh m d ps })
+opening m d ps = judge refusedBy (openingChecks m d ps) (record { answer = 0; board = fresh m d ps })

@@ -57,6 +57,16 @@ kindRow n parents y Supply = equal (y .from) 0 ∷ below (y .to) n ∷ equal (y 
 abbrev pub slotRow : ℕ → ℕ → List ℕ → ℕ → Slot → List Fact
 slotRow n m parents j y = cond (ltb j m) (kindRow n parents y (y .kind)) (holds (isEmpty (y .kind)) ∷ kindRow n parents y Empty)
 
+-- the rows of a board's entries
+abbrev pub unitRowOn : Board → ℕ → UnitRecord → List Fact
+unitRowOn b = unitRow (b .n) (b .delay)
+
+abbrev pub kindRowOn : Board → Slot → Kind → List Fact
+kindRowOn b = kindRow (b .n) (b .parents)
+
+abbrev pub slotRowOn : Board → ℕ → Slot → List Fact
+slotRowOn b = slotRow (b .n) (b .m) (b .parents)
+
 -- S4: 1 where a slot is a request from unit i or a supply to it
 abbrev pub pendingIn : ℕ → Slot → Kind → ℕ
 pendingIn i y Empty = 0
@@ -89,8 +99,8 @@ debtRow b = equal (weightOut b) (b .debt) ∷ atMost (b .debt) ceiling ∷ []
 pub record Sound (b : Board) : Type 0 where
   pub s1-sizes : Claims (sizes b)
   pub s1-parents : Each (parentRow (b .n)) (b .parents)
-  pub s2-units : Each (unitRow (b .n) (b .delay)) (b .units)
-  pub s3-slots : Each (slotRow (b .n) (b .m) (b .parents)) (b .slots)
+  pub s2-units : Each (unitRowOn b) (b .units)
+  pub s3-slots : Each (slotRowOn b) (b .slots)
   pub s4-pending : Each (pendingRow b) (b .units)
   pub s5-s6-debt : Claims (debtRow b)
 
@@ -99,8 +109,8 @@ abbrev pub soundRow : Board → List Fact
 soundRow b =
     holds (tests (sizes b))
     ∷ holds (each (parentRow (b .n)) (b .parents))
-    ∷ holds (each (unitRow (b .n) (b .delay)) (b .units))
-    ∷ holds (each (slotRow (b .n) (b .m) (b .parents)) (b .slots))
+    ∷ holds (each (unitRowOn b) (b .units))
+    ∷ holds (each (slotRowOn b) (b .slots))
     ∷ holds (each (pendingRow b) (b .units))
     ∷ holds (tests (debtRow b))
     ∷ []

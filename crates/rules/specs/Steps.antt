@@ -22,6 +22,7 @@ use Rattle.rules.specs.declared.Slot.{Slot}
 use Rattle.rules.specs.declared.Board.{Board}
 use Rattle.rules.specs.declared.StepRecord.{StepRecord}
 use Rattle.rules.specs.declared.Shared.{Shared}
+use Rattle.rules.specs.declared.Change.{Change}
 use Rattle.rules.specs.declared.Outcome.{Outcome}
 
 -- share, the rules' own term: 2^10 if W is at least 2^11, else half of W rounded down
@@ -166,24 +167,42 @@ recordEffect debt d r x p y Release = releaseEffect debt (r .unit) p x
 unfoldable pub recordRule : ℕ → ℕ → StepRecord → UnitRecord → ℕ → Slot → Action → Effect
 recordRule debt d r x p y a = judge Refused (recordChecks debt x y a) (recordEffect debt d r x p y a)
 
+-- ---- on a board: the head of the bracket, the rest of it, and what an accepted step does
+abbrev pub placesOn : Board → StepRecord → Action → List Check
+placesOn b r a = placeChecks (b .n) (b .m) r a
+
+abbrev pub checksOn : Board → StepRecord → Action → List Check
+checksOn b r a = recordChecks (b .debt) (unitAt b (unitOf b r a)) (slotAt b (slotOf r a)) a
+
+abbrev pub doneOn : Board → StepRecord → Action → Effect
+doneOn b r a = recordEffect (b .debt) (b .delay) r (unitAt b (unitOf b r a)) (parentAt b (unitOf b r a)) (slotAt b (slotOf r a)) a
+
 -- the whole bracket, then the effect
 abbrev pub effectBy : Board → StepRecord → Action → Effect
 effectBy b r a =
-    judge Refused (placeChecks (b .n) (b .m) r a)
+    judge Refused (placesOn b r a)
     (recordRule (b .debt) (b .delay) r (unitAt b (unitOf b r a)) (parentAt b (unitOf b r a)) (slotAt b (slotOf r a)) a)
 
 unfoldable pub effect : Board → StepRecord → Effect
 effect b r = effectBy b r (actionOf (r .kind))
 
--- the board with one unit, one slot or both changed, and the debt
+-- what an effect leaves of the unit x, the slot y and the debt: a refusal leaves all of them, other effects what they do not name
+abbrev pub changeOf : Effect → UnitRecord → Slot → ℕ → Change
+changeOf (Refused k) x y debt = record { answer = k; debt = debt; unit = x; slot = y }
+changeOf (OnUnit unit debt) x y _ = record { answer = 0; debt = debt; unit = unit; slot = y }
+changeOf (OnSlot slot debt) x y _ = record { answer = 0; debt = debt; unit = x; slot = slot }
+changeOf (OnBoth unit slot debt) x y _ = record { answer = 0; debt = debt; unit = unit; slot = slot }
+
+-- the board with its units, its slots and its debt replaced
 abbrev pub changed : Board → List UnitRecord → List Slot → ℕ → Board
 changed b us ys debt = record { n = b .n; m = b .m; delay = b .delay; debt = debt; parents = b .parents; units = us; slots = ys }
 
+-- the answer, and the board with the change stored at the unit u and the slot s
+abbrev pub stored : Board → ℕ → ℕ → Change → Outcome
+stored b u s c = record { answer = c .answer; board = changed b (set (b .units) u (c .unit)) (set (b .slots) s (c .slot)) (c .debt) }
+
 unfoldable pub applied : Board → ℕ → ℕ → Effect → Outcome
-applied b u s (Refused k) = record { answer = k; board = b }
-applied b u s (OnUnit x debt) = record { answer = 0; board = changed b (set (b .units) u x) (b .slots) debt }
-applied b u s (OnSlot y debt) = record { answer = 0; board = changed b (b .units) (set (b .slots) s y) debt }
-applied b u s (OnBoth x y debt) = record { answer = 0; board = changed b (set (b .units) u x) (set (b .slots) s y) debt }
+applied b u s e = stored b u s (changeOf e (unitAt b u) (slotAt b s) (b .debt))
 
 -- a step on a board known to be sound
 unfoldable pub soundStep : Board → StepRecord → Outcome

@@ -80,6 +80,14 @@ pub enum Effect {
     OnBoth(UnitRecord, Slot, u64),
 }
 
+// What an effect leaves: the answer, and the debt, the unit and the slot after the step; as they were where it is refused.
+pub struct Change {
+    pub answer: u16,
+    pub debt: u64,
+    pub unit: UnitRecord,
+    pub slot: Slot,
+}
+
 // What an opening or a step gives: the board after it, and 0 or the number that refused it.
 // The board comes first: behind a gap the compiler copies it once more.
 pub struct Outcome {

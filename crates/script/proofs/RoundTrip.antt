@@ -7,7 +7,7 @@ use native.Mathlib.Nat.{not-suc-le-zero}
 use native.Mathlib.Omega.{arith}
 use lib.ListN.{length, take, drop, getD, length-append, length-map}
 use lib.Seq.{sets-eq, take-at, drop-at, length-take-le}
-use Rattle.rules.specs.Facts.{Claim, Claims}
+use Rattle.rules.specs.Facts.{Claim, Claims, sameList}
 use Rattle.rules.specs.Actions.{kinds, actionOf, isKnown}
 use Rattle.rules.specs.Letters.{letters, used}
 use Rattle.rules.specs.Guarantee.{Fits16}
@@ -22,7 +22,7 @@ use Rattle.fields.specs.Fields.{tab, countOf, fieldOf, fieldCount}
 use Rattle.numbers.specs.Numbers.{fieldsOf, allNumbers, values}
 use Rattle.numbers.proofs.PlaceLaws.{fields-split, fields-count}
 use Rattle.numbers.proofs.JoinLaws.{Small, fields-tabbed, numbers-tabbed, values-tabbed}
-use Rattle.script.specs.Words.{words, sameBytes, placeOf, wordNumber}
+use Rattle.script.specs.Words.{words, placeOf, wordNumber}
 use Rattle.script.specs.Lines.{arguments, rightCount, lineChecks, readingBy, reading}
 use Rattle.script.specs.Writing.{lettersOf, stepLine, stepText, stepWrote, stepWritten}
 use Rattle.script.specs.RoundTrips.{RoundTrip}
@@ -40,7 +40,7 @@ unfolding countOf
 word-none = by-kind (λ k. countOf tab (wordOf k) ≡ 0) refl refl refl refl refl refl refl
 
 word-back : (k : ℕ) → 1 ≤ k → k ≤ kinds → wordNumber (wordOf k) ≡ k
-unfolding placeOf sameBytes
+unfolding placeOf sameList
 word-back = by-kind (λ k. wordNumber (wordOf k) ≡ k) refl refl refl refl refl refl refl
 
 count-right : (k n : ℕ) → 1 ≤ k → n ≡ suc (length (letters (actionOf k))) → Claim (rightCount k n)

@@ -1,8 +1,8 @@
 -- The words of a script, as bytes.
-use mathlib.Core.Bool.{Bool, true, false, cond, _&&_}
+use mathlib.Core.Bool.{cond}
 use mathlib.Core.List.{List, [], _∷_}
 use Prim.Native.Nat.{ℕ, suc}
-use lib.Dec.{eqb}
+use Rattle.rules.specs.Facts.{sameList}
 
 abbrev pub boardWord : List ℕ
 boardWord = 98 ∷ 111 ∷ 97 ∷ 114 ∷ 100 ∷ []
@@ -32,16 +32,10 @@ releaseWord = 114 ∷ 101 ∷ 108 ∷ 101 ∷ 97 ∷ 115 ∷ 101 ∷ []
 abbrev pub words : List (List ℕ)
 words = boardWord ∷ startWord ∷ sendWord ∷ requestWord ∷ deliverWord ∷ restWord ∷ tickWord ∷ releaseWord ∷ []
 
-unfoldable pub sameBytes : List ℕ → List ℕ → Bool
-sameBytes [] [] = true
-sameBytes [] (d ∷ ds) = false
-sameBytes (c ∷ cs) [] = false
-sameBytes (c ∷ cs) (d ∷ ds) = eqb c d && sameBytes cs ds
-
 -- the place of the first of the words vs that w is, their number where it is none
 unfoldable pub placeOf : List ℕ → List (List ℕ) → ℕ
 placeOf w [] = 0
-placeOf w (v ∷ vs) = cond (sameBytes w v) 0 (suc (placeOf w vs))
+placeOf w (v ∷ vs) = cond (sameList w v) 0 (suc (placeOf w vs))
 
 -- 0 for board, 1 on for a step's kind, one more than the kinds for any other word
 abbrev pub wordNumber : List ℕ → ℕ

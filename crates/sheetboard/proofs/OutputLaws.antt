@@ -1,7 +1,7 @@
 -- The parts of a listing as they are handed over: what a call leaves in its buffer, and how the listing goes on behind it.
 use mathlib.Core.Path.{_≡_, refl, sym, ap, subst, _∙_}
 use mathlib.Core.Bool.{Bool, true, false, cond}
-use mathlib.Core.List.{List, [], _∷_, _++_, append-nil}
+use mathlib.Core.List.{List, [], _∷_}
 use Prim.Native.Nat.{ℕ, suc, _+_, _*_, _≤_, _<_}
 use native.Mathlib.Omega.{arith}
 use lib.ListN.{length, take, drop}
@@ -11,13 +11,13 @@ use Rattle.rules.proofs.JudgeLaws.{judge-map}
 use Rattle.placing.specs.declared.Wrote.the-variants.{Count, Refused}
 use Rattle.listing.specs.Scripts.{listing}
 use Rattle.listing.specs.Bounds.{longestPiece, longestLine}
-use Rattle.listing.specs.Parts.{beginning, ended, rest, part, partChecks, partOf, partBuffer, callText, callNext, joined, cursorAfter}
+use Rattle.listing.specs.Parts.{beginning, ended, rest, part, partChecks, partOf, partBuffer, callText, callNext}
 use Rattle.listing.specs.Turns.{bytesOf}
 use Rattle.listing.specs.declared.Cursor.{Cursor}
 use Rattle.listing.specs.declared.Part.{Part}
 use Rattle.listing.proofs.PieceLaws.{turns, rest-beginning}
 use Rattle.listing.proofs.PartLaws.{part-room}
-use Rattle.listing.proofs.CallLaws.{calls-rest}
+use Rattle.listing.proofs.CallLaws.{call-rest}
 use Rattle.listing.proofs.WholeLaws.{Counting, counting-begins, counting-ends, counting-goes, counting-fits, counting-less}
 use Rattle.sheetboard.specs.Output.{Hands, Follows}
 
@@ -62,10 +62,6 @@ module _ (c : Cursor) (s out : List ℕ) where
     hands = record { count-is = counts; bytes-are = rw (counts, b) call-starts; next-is = ap (λ (x : Part). x .cursor) e ∙ call-cursor }
 
 -- ---- the listing behind a call
-call-rest : (c : Cursor) (s : List ℕ) (room : ℕ) → callText c s room ++ rest (callNext c s room) s ≡ rest c s
-unfolding joined cursorAfter
-call-rest c s room = ap (λ (t : List ℕ). t ++ rest (callNext c s room) s) (sym (append-nil (callText c s room))) ∙ calls-rest c s (room ∷ [])
-
 follows-begins : (s : List ℕ) {c : Cursor} → c ≡ beginning → Follows s c 0
 unfolding Follows
 follows-begins s e = ap (λ (x : Cursor). rest x s) e ∙ rest-beginning s

@@ -9,6 +9,7 @@ use native.Mathlib.Omega.{arith}
 use lib.Dec.{eqb}
 use lib.ListN.{length, getD, set, take, drop, replicate, length-take, length-replicate, drop-of-length-le}
 use lib.Seq.{sets, sets-eq, take-all, drop-cons, getD-take}
+use Rattle.rules.specs.Events.{afterAll, allAnswers}
 use Rattle.rules.specs.Facts.{oneIf}
 use Rattle.rules.specs.Sound.{sound}
 use Rattle.rules.specs.Steps.{step}
@@ -22,47 +23,40 @@ use Rattle.rules.specs.declared.Batch.{Batch}
 use Rattle.rules.specs.declared.Ran.the-variants.{Zeros, Refused}
 use Rattle.rules.proofs.SoundLaws.{below-or-not}
 use Rattle.rules.proofs.Theorem.{carries}
-
--- the record that an array reads past its end
-abbrev pub blankStep : StepRecord
-blankStep = record { kind = 0; unit = 0; other = 0; slot = 0 }
+use Rattle.steps.specs.NoStep.{noStep}
 
 -- the batch where the steps rs are left on the board b, z zeros are counted, and the next answer and the next debt go to place i of ks and ds
 unfoldable pub filled : Board → List StepRecord → ℕ → ℕ → List ℕ → List ℕ → Batch
 filled b rs z i ks ds = record { ran = Zeros (z + zeros (answers b rs)); board = after b rs; answers = sets ks i (answers b rs); debts = sets ds i (debts b rs) }
 
 -- ---- a turn
-pub one-at-most : (t : Bool) → oneIf t ≤ 1
-one-at-most true = omega arith
-one-at-most false = omega arith
-
 pub one-more : (z m : ℕ) (t : Bool) → (z + oneIf t) + m ≡ z + cond t (suc m) m
 one-more z m true = omega arith
 one-more z m false = omega arith
 
 filled-step : (b : Board) (r : StepRecord) (rs : List StepRecord) (z i : ℕ) (ks ds : List ℕ)
     → filled (step b r .board) rs (z + oneIf (accepted b r)) (suc i) (set ks i (step b r .answer)) (set ds i (step b r .board .debt)) ≡ filled b (r ∷ rs) z i ks ds
-unfolding filled after answers debts zeros
+unfolding filled afterAll allAnswers debts zeros
 filled-step b r rs z i ks ds =
     let c : Board = step b r .board in
     ap (λ (m : ℕ). record { ran = Zeros m; board = after c rs; answers = sets (set ks i (step b r .answer)) (suc i) (answers c rs); debts = sets (set ds i (c .debt)) (suc i) (debts c rs) })
     (one-more z (zeros (answers c rs)) (accepted b r))
 
 -- the step at place i of the n that are run, with its outcome o stored and counted, leaves what the steps from i on gave
-pub filled-turn : (steps : List StepRecord) (n : ℕ) (b : Board) (z i k : ℕ) (ks ds : List ℕ) (o : Outcome) → n ≤ length steps → i < n → o ≡ step b (getD steps i blankStep) → k ≡ oneIf (eqb (o .answer) 0)
+pub filled-turn : (steps : List StepRecord) (n : ℕ) (b : Board) (z i k : ℕ) (ks ds : List ℕ) (o : Outcome) → n ≤ length steps → i < n → o ≡ step b (getD steps i noStep) → k ≡ oneIf (eqb (o .answer) 0)
     → filled (o .board) (drop (i + 1) (take n steps)) (z + k) (i + 1) (set ks i (o .answer)) (set ds i (o .board .debt)) ≡ filled b (drop i (take n steps)) z i ks ds
 filled-turn steps n b z i k ks ds o m l e f =
     let rs = take n steps in
-    let g : o ≡ step b (getD rs i blankStep) = e ∙ ap (step b) (sym (getD-take n steps i blankStep l)) in
+    let g : o ≡ step b (getD rs i noStep) = e ∙ ap (step b) (sym (getD-take n steps i noStep l)) in
     ap (λ (j : ℕ). filled (o .board) (drop (i + 1) rs) (z + j) (i + 1) (set ks i (o .answer)) (set ds i (o .board .debt))) f
     ∙ ap (λ (j : ℕ). filled (o .board) (drop j rs) (z + oneIf (eqb (o .answer) 0)) j (set ks i (o .answer)) (set ds i (o .board .debt))) (add-one i)
     ∙ ap (λ (p : Outcome). filled (p .board) (drop (suc i) rs) (z + oneIf (eqb (p .answer) 0)) (suc i) (set ks i (p .answer)) (set ds i (p .board .debt))) g
-    ∙ filled-step b (getD rs i blankStep) (drop (suc i) rs) z i ks ds
-    ∙ ap (λ (qs : List StepRecord). filled b qs z i ks ds) (sym (drop-cons rs i blankStep (omega (arith, length-take n steps))))
+    ∙ filled-step b (getD rs i noStep) (drop (suc i) rs) z i ks ds
+    ∙ ap (λ (qs : List StepRecord). filled b qs z i ks ds) (sym (drop-cons rs i noStep (omega (arith, length-take n steps))))
 
 -- ---- the end
 filled-none : (b : Board) (z i : ℕ) (ks ds : List ℕ) → filled b [] z i ks ds ≡ record { ran = Zeros z; board = b; answers = ks; debts = ds }
-unfolding filled after answers debts zeros
+unfolding filled afterAll allAnswers debts zeros
 filled-none b z i ks ds = ap (λ (m : ℕ). record { ran = Zeros m; board = b; answers = ks; debts = ds }) (add-zero z)
 
 pub filled-end : (steps : List StepRecord) (n : ℕ) (b : Board) (z i : ℕ) (ks ds : List ℕ) → n ≤ i → filled b (drop i (take n steps)) z i ks ds ≡ record { ran = Zeros z; board = b; answers = ks; debts = ds }
@@ -71,7 +65,7 @@ filled-end steps n b z i ks ds l =
 
 -- ---- the whole
 pub answers-length : (b : Board) (rs : List StepRecord) → length (answers b rs) ≡ length rs
-unfolding answers
+unfolding allAnswers
 answers-length b [] = refl
 answers-length b (r ∷ rs) = ap suc (answers-length (step b r .board) rs)
 
@@ -140,7 +134,7 @@ filled-batch b steps count t n l e f = ap (λ (m : ℕ). unlessUnsound t (filled
 
 -- ---- the guarantee
 pub batch-carries : (b : Board) (rs : List StepRecord) (x : Batch) → x ≡ batch b rs → Carries b (batchSteps b rs) (x .board)
-unfolding batch batchSteps after
+unfolding batch batchSteps afterAll
 batch-carries b rs x e = subst (λ (c : Board). Carries b (batchSteps b rs) c) (sym (ap (λ (y : Batch). y .board) e ∙ by-test (sound b))) (carries b (batchSteps b rs))
   where
     by-test : (t : Bool) → batchBy t b rs .board ≡ after b (cond t rs [])

@@ -1,14 +1,15 @@
 -- Clamped places do no harm on a sound board: where the place checks pass, the clamp is the identity; where one fails, the records are not used.
 use mathlib.Core.Path.{_≡_, sym, ap, _∙_}
 use mathlib.Core.Bool.{cond}
+use mathlib.Core.List.{List}
 use Prim.Native.Nat.{ℕ, min, _<_, _≤_}
 use native.Mathlib.Omega.{arith}
 use lib.Dec.{eqb}
-use Rattle.rules.specs.Facts.{Claims, judge}
+use Rattle.rules.specs.Facts.{Claims, Check, judge}
 use Rattle.rules.specs.Words.{unitAt, slotAt, parentAt}
-use Rattle.rules.specs.Sound.{Sound, kindRow}
+use Rattle.rules.specs.Sound.{Sound, kindRowOn}
 use Rattle.rules.specs.Letters.{unitBy, slotOf, placeChecks}
-use Rattle.rules.specs.Steps.{unitOf, recordRule, effectBy, applied}
+use Rattle.rules.specs.Steps.{unitOf, recordRule, placesOn, effectBy, applied}
 use Rattle.rules.specs.declared.Action.{Action}
 use Rattle.rules.specs.declared.Action.the-variants.{Unknown, Start, Send, Request as RequestStep, Deliver, Rest, Tick, Release}
 use Rattle.rules.specs.declared.Kind.{Kind}
@@ -20,6 +21,7 @@ use Rattle.rules.specs.declared.StepRecord.{StepRecord}
 use Rattle.rules.proofs.FactLaws.{asked}
 use Rattle.rules.proofs.SoundLaws.{slot-row, parent-below}
 use Rattle.rules.proofs.JudgeLaws.{judge-by-number, judge-map, judge-same}
+use Rattle.rules.proofs.Changes.{refused-applied}
 use Rattle.rules.proofs.Accepted.{place-numbered}
 
 -- the effect unless the place is refused
@@ -33,12 +35,16 @@ ruleAt b r a u s = recordRule (b .debt) (b .delay) r (unitAt b u) (parentAt b u)
 pub placed-effect : (n m : ℕ) (r : StepRecord) (a : Action) (k : ℕ) (e f : Effect) → k ≡ judge (λ j. j) (placeChecks n m r a) 0 → f ≡ unless k e → f ≡ judge Refused (placeChecks n m r a) e
 placed-effect n m r a k e f k-is f-is = f-is ∙ ap (λ (j : ℕ). unless j e) k-is ∙ sym (judge-by-number Refused (placeChecks n m r a) e (place-numbered n m r a))
 
+-- a refused effect leaves the board, wherever it is applied
+judged-applied : (b : Board) (u s : ℕ) (cs : List Check) (e : Effect) → applied b u s (judge Refused cs e) ≡ judge (λ k. record { answer = k; board = b }) cs (applied b u s e)
+judged-applied b u s cs e = judge-map (applied b u s) Refused cs e ∙ (λ i. judge (λ k. refused-applied b u s k i) cs (applied b u s e))
+
 module _ (b : Board) (h : Sound b) where
   -- a message's receiver is a unit in use
   receiver-in-use : (j : ℕ) → j < b .m → slotAt b j .to < b .n
   receiver-in-use j l = by-kind (slotAt b j .kind) (slot-row b h j l)
     where
-      by-kind : (k : Kind) → Claims (kindRow (b .n) (b .parents) (slotAt b j) k) → slotAt b j .to < b .n
+      by-kind : (k : Kind) → Claims (kindRowOn b (slotAt b j) k) → slotAt b j .to < b .n
       by-kind Empty p = omega (arith, h .s1-sizes, p)
       by-kind Work p = p .1 .0
       by-kind Return p = omega (arith, p, parent-below b h (slotAt b j .from) (p .0) (p .1 .0))
@@ -46,7 +52,7 @@ module _ (b : Board) (h : Sound b) where
       by-kind Supply p = p .1 .0
 
   -- a step that passes its place checks has its unit and its slot within the arrays
-  within : (r : StepRecord) (a : Action) → Claims (asked (placeChecks (b .n) (b .m) r a)) → (unitOf b r a ≤ 63) × (slotOf r a ≤ 255)
+  within : (r : StepRecord) (a : Action) → Claims (asked (placesOn b r a)) → (unitOf b r a ≤ 63) × (slotOf r a ≤ 255)
   within r Unknown p = omega arith
   within r Start p = omega arith
   within r Send p = omega arith
@@ -58,19 +64,17 @@ module _ (b : Board) (h : Sound b) where
 
   -- the rule at clamped places, applied there, is the step: a refused effect is applied alike at any places
   module _ (r : StepRecord) (a : Action) (u s : ℕ) (slot-is : s ≡ min (slotOf r a) 255) (unit-at : u ≡ min (unitBy r (slotAt b s .to) a) 63) where
-    same-slot : Claims (asked (placeChecks (b .n) (b .m) r a)) → s ≡ slotOf r a
+    same-slot : Claims (asked (placesOn b r a)) → s ≡ slotOf r a
     same-slot p = omega (arith, within r a p, slot-is)
 
-    same-unit : Claims (asked (placeChecks (b .n) (b .m) r a)) → u ≡ unitOf b r a
+    same-unit : Claims (asked (placesOn b r a)) → u ≡ unitOf b r a
     same-unit p =
         let e : unitBy r (slotAt b s .to) a ≡ unitOf b r a = ap (λ (j : ℕ). unitBy r (slotAt b j .to) a) (same-slot p) in
         omega (arith, within r a p, unit-at, e)
 
-    pub clamped-step : applied b u s (judge Refused (placeChecks (b .n) (b .m) r a) (ruleAt b r a u s)) ≡ applied b (unitOf b r a) (slotOf r a) (effectBy b r a)
-    unfolding applied
+    pub clamped-step : applied b u s (judge Refused (placesOn b r a) (ruleAt b r a u s)) ≡ applied b (unitOf b r a) (slotOf r a) (effectBy b r a)
     clamped-step =
-        let cs = placeChecks (b .n) (b .m) r a in
-        judge-map (applied b u s) Refused cs (ruleAt b r a u s)
-        ∙ judge-same (λ j. record { answer = j; board = b }) cs (applied b u s (ruleAt b r a u s)) (applied b (unitOf b r a) (slotOf r a) (ruleAt b r a (unitOf b r a) (slotOf r a)))
+        judged-applied b u s (placesOn b r a) (ruleAt b r a u s)
+        ∙ judge-same (λ j. record { answer = j; board = b }) (placesOn b r a) (applied b u s (ruleAt b r a u s)) (applied b (unitOf b r a) (slotOf r a) (ruleAt b r a (unitOf b r a) (slotOf r a)))
         (λ p. ap (λ (i : ℕ). applied b i s (ruleAt b r a i s)) (same-unit p) ∙ ap (λ (j : ℕ). applied b (unitOf b r a) j (ruleAt b r a (unitOf b r a) j)) (same-slot p))
-        ∙ sym (judge-map (applied b (unitOf b r a) (slotOf r a)) Refused cs (ruleAt b r a (unitOf b r a) (slotOf r a)))
+        ∙ sym (judged-applied b (unitOf b r a) (slotOf r a) (placesOn b r a) (ruleAt b r a (unitOf b r a) (slotOf r a)))

@@ -1,6 +1,7 @@
 pub mod Flags
 pub mod Clamping
 pub mod Changing
+pub mod StepLaws
 pub mod BatchLaws
 pub mod RunTurns
 pub mod RunLaws

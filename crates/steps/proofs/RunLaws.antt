@@ -8,6 +8,7 @@ use native.Mathlib.Omega.{arith}
 use lib.ListN.{length, getD, set, take, drop, length-set}
 use lib.Dec.{eqb, leb}
 use borrow.Author.Tests.{leb-true}
+use Rattle.rules.specs.Events.{afterAll, allAnswers}
 use Rattle.rules.specs.Sound.{sound}
 use Rattle.rules.specs.Steps.{step}
 use Rattle.rules.specs.Lists.{after, answers}
@@ -22,7 +23,8 @@ use Rattle.rules.proofs.SoundLaws.{sound-claims, sound-tested}
 use Rattle.rules.proofs.ListLaws.{step-keeps-sound}
 use Rattle.rules.proofs.Theorem.{carries}
 use Rattle.steps.specs.Turns.{refusalOf, turnsOf, countedOf, ranOf}
-use Rattle.steps.proofs.RunTurns.{begun, noStep, taken, counts, written}
+use Rattle.steps.specs.NoStep.{noStep}
+use Rattle.steps.proofs.RunTurns.{begun, taken, counts, written}
 use Rattle.steps.specs.RunMeets.{RunMeets}
 
 -- ---- on a sound board every turn has a sound board, and no more zeros than turns
@@ -54,7 +56,7 @@ written-cons o r rs k out zero = refl
 written-cons o r rs k out (suc i) = λ j. set (written-cons o r rs k out i j) (suc i) (taken-cons o r rs (suc i) j .answer)
 
 all-board : (o : Outcome) (rs : List StepRecord) → taken o rs (length rs) .board ≡ after (o .board) rs
-unfolding after
+unfolding afterAll
 all-board o [] = refl
 all-board o (r ∷ rs) = ap (λ (p : Outcome). p .board) (taken-cons o r rs (length rs)) ∙ all-board (step (o .board) r) rs
 
@@ -63,14 +65,14 @@ counted-sum true m k = omega arith
 counted-sum false m k = refl
 
 all-zeros : (o : Outcome) (rs : List StepRecord) (z : ℕ) → counts o rs z (length rs) ≡ z + zeros (answers (o .board) rs)
-unfolding zeros answers
+unfolding zeros allAnswers
 all-zeros o [] z = omega arith
 all-zeros o (r ∷ rs) z =
     let p : Outcome = step (o .board) r in
     counts-cons o r rs z (length rs) ∙ all-zeros p rs (countedOf z (p .answer)) ∙ counted-sum (eqb (p .answer) 0) z (zeros (answers (p .board) rs))
 
 all-answers : (o : Outcome) (rs : List StepRecord) (out : List ℕ) → length rs ≤ length out → written o rs out (length rs) ≡ answers (o .board) rs ++ drop (length rs) out
-unfolding answers
+unfolding allAnswers
 all-answers o [] out l = refl
 all-answers o (r ∷ rs) [] l = absurd (not-suc-le-zero l)
 all-answers o (r ∷ rs) (k ∷ out) l =
@@ -99,7 +101,7 @@ allowed b steps room k n i k-is n-is l = by-tests (sound b) (leb steps room) ref
 
 -- ---- the end of a run
 carries-none : (b : Board) → Carries b [] b
-unfolding after
+unfolding afterAll
 carries-none b = carries b []
 
 run-carries : (b : Board) (rs : List StepRecord) (out : List ℕ) → Carries b (ranSteps b rs out) (runBoard b rs out)

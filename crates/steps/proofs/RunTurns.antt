@@ -6,15 +6,12 @@ use Rattle.rules.specs.Steps.{step}
 use Rattle.rules.specs.declared.Board.{Board}
 use Rattle.rules.specs.declared.StepRecord.{StepRecord}
 use Rattle.rules.specs.declared.Outcome.{Outcome}
+use Rattle.steps.specs.NoStep.{noStep}
 use Rattle.steps.specs.Turns.{countedOf}
 
 -- before the first turn
 abbrev pub begun : Board → Outcome
 begun b = record { answer = 0; board = b }
-
--- what a read past the end of the list would give; no turn makes one
-abbrev pub noStep : StepRecord
-noStep = record { kind = 0; unit = 0; other = 0; slot = 0 }
 
 -- after i turns: what the last step gave, the zeros counted, and the buffer, in which turn i wrote its answer at i
 abbrev pub taken : Outcome → List StepRecord → ℕ → Outcome

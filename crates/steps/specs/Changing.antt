@@ -5,13 +5,13 @@ use Prim.Native.Nat.{ℕ, min}
 use Rattle.rules.specs.Facts.{check, holds, judge}
 use Rattle.rules.specs.Actions.{actionOf}
 use Rattle.rules.specs.Letters.{slotOf, unitBy, placeChecks}
-use Rattle.rules.specs.Steps.{recordRule}
+use Rattle.rules.specs.Steps.{recordRule, changeOf}
 use Rattle.rules.specs.declared.Effect.{Effect}
-use Rattle.rules.specs.declared.Effect.the-variants.{Refused, OnUnit, OnSlot, OnBoth}
+use Rattle.rules.specs.declared.Effect.the-variants.{Refused}
 use Rattle.rules.specs.declared.UnitRecord.{UnitRecord}
 use Rattle.rules.specs.declared.Slot.{Slot}
 use Rattle.rules.specs.declared.StepRecord.{StepRecord}
-use Rattle.steps.specs.declared.changes.Change.{Change}
+use Rattle.rules.specs.declared.Change.{Change}
 
 -- the slot and the unit of a step as indices: past the end the last one
 abbrev pub slotPlace : StepRecord → ℕ
@@ -19,13 +19,6 @@ slotPlace r = min (slotOf r (actionOf (r .kind))) 255
 
 abbrev pub unitPlace : StepRecord → ℕ → ℕ
 unitPlace r to = min (unitBy r to (actionOf (r .kind))) 63
-
--- what an effect leaves of the unit x, the slot y and the debt
-abbrev pub changeOf : Effect → UnitRecord → Slot → ℕ → Change
-changeOf (Refused k) x y debt = record { answer = k; debt = debt; unit = x; slot = y }
-changeOf (OnUnit unit debt) x y _ = record { answer = 0; debt = debt; unit = unit; slot = y }
-changeOf (OnSlot slot debt) x y _ = record { answer = 0; debt = debt; unit = x; slot = slot }
-changeOf (OnBoth unit slot debt) x y _ = record { answer = 0; debt = debt; unit = unit; slot = slot }
 
 -- the whole bracket of a step, where it is known whether the board is sound, then what its effect leaves; p is the unit's parent
 abbrev pub effectOn : Bool → ℕ → ℕ → ℕ → ℕ → StepRecord → UnitRecord → ℕ → Slot → Effect

@@ -5,25 +5,19 @@ use crate::places::place_refusal;
 use crate::places::slot_of;
 use crate::places::unit_of;
 use crate::records::record_rule;
+use rules::Change;
 use rules::Effect;
 use rules::Slot;
 use rules::StepRecord;
 use rules::UnitRecord;
 ghost use mathlib.Core.Path.{_≡_};
 ghost use mathlib.Core.Bool.{true, cond};
-ghost use Prim.Native.Nat.{_+_, _≤_};
 ghost use lib.Dec.{eqb};
-ghost use Rattle.rules.specs.Words.{ceiling};
+ghost use Rattle.rules.specs.Actions.{actionOf};
+ghost use Rattle.rules.specs.Steps.{changeOf};
 ghost use Rattle.rules.specs.declared.Effect.the-variants.{Refused};
-ghost use Rattle.steps.specs.Changing.{slotPlace, unitPlace, changeOf, changeAt};
-
-// The answer, and the debt, the unit and the slot after the step: as they were where it is refused.
-pub(crate) struct Change {
-    pub(crate) answer: u16,
-    pub(crate) debt: u64,
-    pub(crate) unit: UnitRecord,
-    pub(crate) slot: Slot,
-}
+ghost use Rattle.steps.specs.WeightsFit.{WeightsFit};
+ghost use Rattle.steps.specs.Changing.{slotPlace, unitPlace, changeAt};
 
 // The places that a step may change. A refused place is clamped, so that its record can be read and left as it was.
 pub(crate) fn slot_place(r: StepRecord) -> usize
@@ -93,7 +87,7 @@ pub(crate) fn change_at(
     p: u16,
     y: Slot,
 ) -> Change
-    requires { ⌜ (sound ≡ true → (x .weight + y .weight ≤ debt) × (debt ≤ ceiling)) ⌝ }
+    requires { ⌜ (sound ≡ true → WeightsFit debt x y (actionOf (r .kind))) ⌝ }
     ensures { λ c. ⌜ c ≡ changeAt sound n m debt delay r x p y ⌝ }
 {
     if !sound {

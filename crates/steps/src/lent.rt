@@ -2,8 +2,8 @@
 ghost use mathlib.Core.Path.{_≡_};
 ghost use Prim.Native.Nat.{_+_, _<_, _^_, min};
 ghost use lib.ListN.{take};
-ghost use Rattle.rules.specs.Steps.{step};
 ghost use Rattle.steps.specs.Turns.{refusalOf, turnsOf, countedOf, ranOf};
+ghost use Rattle.steps.specs.StepMeets.{StepMeets};
 ghost use Rattle.steps.specs.RunMeets.{RunMeets};
 use crate::acted;
 use crate::step;
@@ -15,7 +15,7 @@ use rules::StepRecord;
 
 // The step on a lent board, which is advanced where it is.
 pub fn step_lent(b: &mut Board, r: StepRecord) -> u16
-    ensures { λ k. ⌜ (k ≡ step (now (b .entry)) r .answer) × (now (b .exit) ≡ step (now (b .entry)) r .board) ⌝ }
+    ensures { λ k. ⌜ StepMeets (now (b .entry)) r k (now (b .exit)) ⌝ }
 {
     let o = step(*b, r);
     *b = o.board;

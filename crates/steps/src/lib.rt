@@ -26,6 +26,7 @@ ghost use mathlib.Core.Path.{_≡_};
 ghost use Rattle.rules.specs.Sound.{sound};
 ghost use Rattle.rules.specs.Actions.{actionOf};
 ghost use Rattle.rules.specs.Steps.{step};
+ghost use Rattle.steps.specs.StepMeets.{StepMeets};
 pub use batch::run_batch;
 
 // A step's kind by its number; every number outside 1 to 7 is unknown.
@@ -69,7 +70,7 @@ pub(crate) fn acted(mut b: Board, r: StepRecord, tested: bool) -> Outcome
 
 // A step on any board: one that is not sound is refused before all else.
 pub fn step(b: Board, r: StepRecord) -> Outcome
-    ensures { λ o. ⌜ o ≡ step b r ⌝ }
+    ensures { λ o. ⌜ StepMeets b r (o .answer) (o .board) ⌝ }
 {
     acted(b, r, is_sound(b))
 }

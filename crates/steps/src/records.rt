@@ -1,8 +1,7 @@
 // A step on the records that it may change: a unit, its parent and a slot.
 ghost use mathlib.Core.Path.{_≡_};
-ghost use Prim.Native.Nat.{_+_, _≤_};
-ghost use Rattle.rules.specs.Words.{ceiling};
 ghost use Rattle.rules.specs.Steps.{recordRule};
+ghost use Rattle.steps.specs.WeightsFit.{WeightsFit};
 use crate::delivering::deliver;
 use crate::requesting::request;
 use crate::resting::release;
@@ -26,7 +25,7 @@ pub(crate) fn record_rule(
     y: Slot,
     a: Action,
 ) -> Effect
-    requires { ⌜ (x .weight + y .weight ≤ debt) × (debt ≤ ceiling) ⌝ }
+    requires { ⌜ WeightsFit debt x y a ⌝ }
     ensures { λ e. ⌜ e ≡ recordRule debt delay r x p y a ⌝ }
 {
     match a {

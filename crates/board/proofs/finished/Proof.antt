@@ -5,6 +5,7 @@ use mathlib.Core.List.{[]}
 use native.Mathlib.Omega.{arith}
 use borrow.Author.Needs.{needs}
 use borrow.Author.Tests.{not-true, not-false, eq-eqb, ne-eqb}
+use Rattle.rules.specs.Events.{afterAll}
 use Rattle.rules.specs.Sound.{sound}
 use Rattle.rules.specs.Lists.{after}
 use Rattle.rules.specs.Finished.{verdict, Complete}
@@ -22,7 +23,7 @@ is-sound-requires c κs = search needs
 
 -- what the verdict tells of every board, and the guarantee, whatever the answer
 told : (b : Board) (v : Verdict) → v ≡ verdict b → (v ≡ verdict b) × (((v ≡ Finished → Complete b) × (sound b ≡ true → Complete b → v ≡ Finished)) × Carries b [] b)
-unfolding after
+unfolding afterAll
 told b v e = (e, (subst (λ (w : Verdict). (w ≡ Finished → Complete b) × (sound b ≡ true → Complete b → w ≡ Finished)) (sym e) (finished-tells b), carries b []))
 
 returns : tie.Need-returns

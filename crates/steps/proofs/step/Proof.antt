@@ -1,5 +1,6 @@
 -- `step` meets its contract: the call's answer is what is known of the board.
 use borrow.Author.Needs.{needs}
+use Rattle.steps.proofs.StepLaws.{step-meets}
 use Rattle.steps.proofs.step.Statement.{statement}
 use Rattle.steps.proofs.step.Tie as tie
 
@@ -10,7 +11,7 @@ acted-requires : tie.Need-acted-requires
 acted-requires c κs = c .is-sound .ensures
 
 returns : tie.Need-returns
-returns c = c .acted .ensures
+returns c = step-meets _ _ (c .acted .result) (c .acted .ensures)
 
 pub step-spec : {M : Type 1} → statement M
 step-spec = tie.close (tie.spec is-sound-requires acted-requires returns)

@@ -3,7 +3,7 @@ use Prim.Native.Nat.{_-_}
 use native.Mathlib.Omega.{arith}
 use lib.ListN.{length}
 use borrow.Author.Needs.{needs}
-use Rattle.steps.proofs.BatchLaws.{one-at-most}
+use Rattle.board.proofs.SlotLaws.{one-at-most}
 use Rattle.bench.proofs.DelayLaws.{Turn, turn-begins, turn-goes, turn-ends}
 use Rattle.bench.proofs.delays.sound_count.Statement.{statement}
 use Rattle.bench.proofs.delays.sound_count.Tie as tie

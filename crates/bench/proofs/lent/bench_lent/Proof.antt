@@ -44,7 +44,7 @@ use Rattle.rules.specs.Lists.{answers}
 use Rattle.rules.specs.Runs.{zeros}
 use Rattle.rules.specs.declared.Board.{Board}
 use Rattle.rules.specs.declared.StepRecord.{StepRecord}
-use Rattle.steps.proofs.RunTurns.{noStep}
+use Rattle.steps.specs.NoStep.{noStep}
 use Rattle.steps.proofs.Walking.{number, tailOf, Places, envOf, lives, laid, begins, aside, frees1, frees4, frees-room, frees0, spelled, local-at, field-at, behind, lets, sets, lands-at, Answer, gives, asks, Means, by-walk}
 use Rattle.steps.proofs.Lending.{looks-slice-at, takes-at, returns-at, lends-local, local-back}
 use Rattle.steps.proofs.PlainData.{board, stepRecord}
@@ -175,7 +175,7 @@ module _ {M : Type 1} (𝓤 : URA M) (H : Heap 𝓤) (A : Atoms 𝓤) (W : Given
         -- `i += 1`
         assigns-last ! (bin ! (local-at ! 7 refl) (lit ! tt) (record { fits = may .next-fits })) (from ! (stop !)) (store ! 7 refl (tt, record { fits = may .next-fits })) $
         forget ! 8 refl $ forget ! 10 refl $ forget ! 11 refl $ forget ! 12 refl $ forget ! 13 refl $ forget ! 14 refl $ forget ! 15 refl $
-        again ! (Nearer h rs) At s (next s less k c (said .0) (said .1) ic x x-is) (add-one-dec (length rs) (s .i) less))))))
+        again ! (Nearer h rs) At s (next s less k c (said .answer) (said .board) ic x x-is) (add-one-dec (length rs) (s .i) less))))))
 
     -- the end, where the test fails
     ended : (s : Turned h rs) → length rs ≤ s .i → Sq W (Tested s) (runs (𝓣 .C) (𝓣 .Λ) En rest (atRet En Post))

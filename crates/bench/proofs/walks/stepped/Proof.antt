@@ -6,7 +6,8 @@ use lib.ListN.{length}
 use lib.Dec.{eqb}
 use borrow.Author.Needs.{needs}
 use Rattle.rules.specs.Steps.{step}
-use Rattle.steps.proofs.BatchLaws.{one-at-most}
+use Rattle.board.proofs.SlotLaws.{one-at-most}
+use Rattle.steps.proofs.StepLaws.{step-met}
 use Rattle.bench.proofs.WalkLaws.{Turn, turn-begins, turn-goes, turn-ends}
 use Rattle.bench.proofs.walks.stepped.Statement.{statement}
 use Rattle.bench.proofs.walks.stepped.Tie as tie
@@ -42,7 +43,7 @@ loop-again : tie.Need-loop-again Inv-loop μ-loop
 loop-again c =
     let stepped = c .before .before .before in
     let at-loop = stepped .before .before .before in
-    turn-goes (at-loop .loop .inv) (omega arith) (stepped .step .ensures ∙ ap (step (at-loop .loop .b)) (stepped .before .record-at .ensures)) (c .one-if .ensures)
+    turn-goes (at-loop .loop .inv) (omega arith) (step-met _ _ (stepped .step .result) (stepped .step .ensures) ∙ ap (step (at-loop .loop .b)) (stepped .before .record-at .ensures)) (c .one-if .ensures)
 
 returns : tie.Need-returns Inv-loop μ-loop
 returns c = turn-ends (c .before .loop .inv) (omega arith)

@@ -14,8 +14,8 @@ use Rattle.board.proofs.opening.open.Tie as tie
 refusal-requires : tie.Need-refusal-requires
 refusal-requires c κs = search needs
 
-blank-board-requires : tie.Need-blank-board-requires
-blank-board-requires c κs = search needs
+blank-requires : tie.Need-blank-requires
+blank-requires c κs = search needs
 
 -- where no check refused
 accepted : (c : tie.Then1) → numberOf (openingChecks (c .before .before .before .before .args .m) (c .before .before .before .before .args .d) (c .before .before .before .before .args .parents .now)) ≡ 0
@@ -39,19 +39,19 @@ returns : tie.Need-returns
 unfolding fresh blankBoard
 returns c =
     let a = c .before .before .before .before .before .args in
-    rw (c .before .if1 .taken, add-one, c .before .before .blank-board .ensures, c .entries .ensures) (sym (opened (a .m) (a .d) (a .parents .now) (accepted (c .before))))
+    rw (c .before .if1 .taken, add-one, c .before .before .blank .ensures, c .entries .ensures) (sym (opened (a .m) (a .d) (a .parents .now) (accepted (c .before))))
 
 returns-2 : tie.Need-returns-2
 returns-2 c =
     let a = c .before .before .before .before .args in
-    rw (c .before .blank-board .ensures) (sym (not-opened (a .m) (a .d) _ (a .parents .now) (sym (c .before .before .refusal .ensures)) (c .if1 .left)))
+    rw (c .before .blank .ensures) (sym (not-opened (a .m) (a .d) _ (a .parents .now) (sym (c .before .before .refusal .ensures)) (c .if1 .left)))
 
 pub open-spec : {M : Type 1} → statement M
 open-spec =
     tie.close
     (tie.spec
     refusal-requires
-    blank-board-requires
+    blank-requires
     entries-requires
     cast-b
     add-b

@@ -9,7 +9,7 @@ use borrow.Author.Needs.{needs}
 use borrow.Author.Tests.{not-true, not-false}
 use Rattle.rules.specs.Facts.{Fact, atMost, Claims, tests}
 use Rattle.rules.specs.Words.{parentAt, unitAt, slotAt, ceiling}
-use Rattle.rules.specs.Sound.{sizes, slotRow, Sound}
+use Rattle.rules.specs.Sound.{sizes, Sound, slotRowOn}
 use Rattle.rules.specs.declared.Board.{Board}
 use Rattle.rules.proofs.FactLaws.{claims}
 use Rattle.board.proofs.BoardLaws.{lengths-of}
@@ -87,7 +87,7 @@ returns-2 : tie.Need-returns-2 Inv-loop μ-loop Inv-loop2 μ-loop2
 returns-2 c =
     let at = at-slot (c .before) in
     let b : Board = board at in
-    unsound b (λ s. denied (slotRow (b .n) (b .m) (b .parents) (at .loop .j) (slotAt b (at .loop .j))) (sym (c .before .slot-fits .ensures) ∙ not-true _ (c .if2 .taken)) (slot-asked (c .before) s .1))
+    unsound b (λ s. denied (slotRowOn b (at .loop .j) (slotAt b (at .loop .j))) (sym (c .before .slot-fits .ensures) ∙ not-true _ (c .if2 .taken)) (slot-asked (c .before) s .1))
 
 returns-3 : tie.Need-returns-3 Inv-loop μ-loop Inv-loop2 μ-loop2
 returns-3 c =
@@ -137,7 +137,7 @@ loop-again c =
     let at = at-slot (e .before) in
     let b : Board = board at in
     slot-laws.one-more b (lengths at) (at .loop .left) (at .loop .pending) (at .loop .j) (at .loop .inv) (c .if4 .pending) (counted c) (omega arith)
-    (d .if3 .left, claims (slotRow (b .n) (b .m) (b .parents) (at .loop .j) (slotAt b (at .loop .j))) (sym (e .before .slot-fits .ensures) ∙ not-false _ (e .if2 .left)))
+    (d .if3 .left, claims (slotRowOn b (at .loop .j) (slotAt b (at .loop .j))) (sym (e .before .slot-fits .ensures) ∙ not-false _ (e .if2 .left)))
 
 loop2-holds : tie.Need-loop2-holds Inv-loop μ-loop Inv-loop2 μ-loop2
 loop2-holds c =

@@ -1,4 +1,4 @@
--- `no_step` meets its contract: it is the record of a bad line.
+-- `no_step` meets its contract: its record is the definition's.
 use mathlib.Core.Path.{refl}
 use Rattle.listing.proofs.gathering.no_step.Statement.{statement}
 use Rattle.listing.proofs.gathering.no_step.Tie as tie

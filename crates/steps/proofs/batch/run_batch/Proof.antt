@@ -10,15 +10,17 @@ use Rattle.rules.specs.Sound.{Sound}
 use Rattle.rules.specs.declared.Board.{Board}
 use Rattle.rules.specs.declared.StepRecord.{StepRecord}
 use Rattle.rules.specs.declared.Batch.{Batch}
-use Rattle.rules.specs.Steps.{step}
+use Rattle.rules.specs.Steps.{step, stored}
 use Rattle.rules.specs.Runs.{batchMost, batch}
 use Rattle.rules.specs.declared.Outcome.{Outcome}
 use Rattle.rules.specs.declared.Ran.{Ran}
 use Rattle.rules.proofs.SoundLaws.{sound-claims}
 use Rattle.rules.proofs.Accepted.{step-sound}
 use Rattle.rules.proofs.ListLaws.{step-keeps-sound}
-use Rattle.steps.proofs.Changing.{stored, place-weights, stored-step}
-use Rattle.steps.proofs.BatchLaws.{filled, blankStep, one-at-most, filled-turn, filled-end, unlessUnsound, turns-few, turns-sound, filled-batch, batch-carries}
+use Rattle.board.proofs.SlotLaws.{one-at-most}
+use Rattle.steps.specs.NoStep.{noStep}
+use Rattle.steps.proofs.Changing.{place-weights, stored-step}
+use Rattle.steps.proofs.BatchLaws.{filled, filled-turn, filled-end, unlessUnsound, turns-few, turns-sound, filled-batch, batch-carries}
 use Rattle.steps.proofs.batch.run_batch.Statement.{statement}
 use Rattle.steps.proofs.batch.run_batch.Tie as tie
 
@@ -98,7 +100,7 @@ all-there s = search needs
 
 -- the step that is asked for
 abbrev asked : tie.After-unit-place Inv-loop μ-loop → StepRecord
-asked d = getD (start (at-loop d) .args .t2) (at-loop d .loop .i) blankStep
+asked d = getD (start (at-loop d) .args .t2) (at-loop d .loop .i) noStep
 
 sure : (d : tie.After-unit-place Inv-loop μ-loop) → Sound (at-loop d .loop .b)
 sure d = at-loop d .loop .inv .is-sound (slot-place d .before .before .loop-test .taken)

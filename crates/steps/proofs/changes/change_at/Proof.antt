@@ -1,14 +1,14 @@
 -- `change_at` meets its contract: on a sound board the number that refuses the place is the bracket's head, and the rest is what its callees say.
-use mathlib.Core.Path.{ap, _∙_}
+use mathlib.Core.Path.{sym, ap, subst, _∙_}
 use borrow.Author.Needs.{needs}
 use borrow.Author.Tests.{not-true, not-false}
 use Rattle.rules.specs.Facts.{judge}
 use Rattle.rules.specs.Letters.{placeChecks}
-use Rattle.rules.specs.Steps.{recordRule}
+use Rattle.rules.specs.Steps.{recordRule, changeOf}
 use Rattle.rules.specs.declared.Action.{Action}
 use Rattle.rules.specs.declared.Effect.{Effect}
 use Rattle.rules.specs.declared.Effect.the-variants.{Refused}
-use Rattle.steps.specs.Changing.{changeOf}
+use Rattle.steps.specs.WeightsFit.{WeightsFit}
 use Rattle.steps.proofs.Clamping.{placed-effect}
 use Rattle.steps.proofs.changes.change_at.Statement.{statement}
 use Rattle.steps.proofs.changes.change_at.Tie as tie
@@ -23,7 +23,10 @@ place-refusal-requires : tie.Need-place-refusal-requires
 place-refusal-requires c κs = search needs
 
 record-rule-requires : tie.Need-record-rule-requires
-record-rule-requires c κs = let d = c .before .before in d .before .pre (not-false (d .before .args .sound) (d .if1 .left))
+record-rule-requires c κs =
+    let d = c .before .before in
+    let g = d .before .args in
+    subst (WeightsFit (g .debt) (g .x) (g .y)) (sym (c .before .action .ensures)) (d .before .pre (not-false (g .sound) (d .if1 .left)))
 
 unless-refused-requires : tie.Need-unless-refused-requires
 unless-refused-requires c κs = search needs

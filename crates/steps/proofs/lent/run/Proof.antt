@@ -43,7 +43,8 @@ use Rattle.rules.specs.declared.StepRecord.{StepRecord}
 use Rattle.rules.specs.declared.Outcome.{Outcome}
 use Rattle.rules.specs.declared.Ran.{Ran}
 use Rattle.steps.specs.Turns.{refusalOf, turnsOf, countedOf, ranOf}
-use Rattle.steps.proofs.RunTurns.{begun, noStep, taken, counts, written}
+use Rattle.steps.specs.NoStep.{noStep}
+use Rattle.steps.proofs.RunTurns.{begun, taken, counts, written}
 use Rattle.steps.proofs.RunLaws.{run-meets}
 use Rattle.steps.proofs.Walking.{number, tailOf, Places, envOf, lives, laid, begins, aside, frees1, frees4, frees-room, frees0, spelled, local-at, field-at, behind, lets, sets, stores, lands-at, asks, Means, by-walk}
 use Rattle.steps.proofs.Lending.{Opened, OpenedSlice, opens-at, closes-at, opens-slice-at, closes-slice-at, looks-slice-at, takes-at, returns-at, puts-at}

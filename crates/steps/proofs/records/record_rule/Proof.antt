@@ -29,13 +29,13 @@ enum-told-5 : tie.Need-enum-told-5
 enum-told-5 c = search needs
 
 deliver-requires : tie.Need-deliver-requires
-deliver-requires c κs = search needs
+deliver-requires c κs = let fit = c .before .before .pre in (fit .delivered (c .enum-told5 .given .1), fit .most)
 
 enum-told-6 : tie.Need-enum-told-6
 enum-told-6 c = search needs
 
 rest-requires : tie.Need-rest-requires
-rest-requires c κs = search needs
+rest-requires c κs = c .before .before .pre .unit
 
 enum-told-7 : tie.Need-enum-told-7
 enum-told-7 c = search needs

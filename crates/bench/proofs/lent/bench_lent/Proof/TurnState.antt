@@ -12,22 +12,24 @@ use lib.ListN.{length, getD, drop, drop-of-length-le}
 use lib.Seq.{drop-cons}
 use denote.Laws.{Is}
 use denote.Slice.{Room}
+use Rattle.rules.specs.Events.{allAnswers}
 use Rattle.rules.specs.Facts.{oneIf}
 use Rattle.rules.specs.Steps.{step}
 use Rattle.rules.specs.Lists.{answers}
 use Rattle.rules.specs.Runs.{zeros}
 use Rattle.rules.specs.declared.Board.{Board}
 use Rattle.rules.specs.declared.StepRecord.{StepRecord}
-use Rattle.steps.proofs.RunTurns.{noStep}
-use Rattle.steps.proofs.BatchLaws.{one-at-most, one-more}
+use Rattle.steps.specs.NoStep.{noStep}
+use Rattle.board.proofs.SlotLaws.{one-at-most}
+use Rattle.steps.proofs.BatchLaws.{one-more}
 use Rattle.steps.proofs.PlainData.{board, stepRecord}
 
 step-counted : (b : Board) (r : StepRecord) (rs : List StepRecord) (z : ℕ) → (z + oneIf (eqb (step b r .answer) 0)) + zeros (answers (step b r .board) rs) ≡ z + zeros (answers b (r ∷ rs))
-unfolding answers zeros
+unfolding allAnswers zeros
 step-counted b r rs z = one-more z (zeros (answers (step b r .board) rs)) (eqb (step b r .answer) 0)
 
 none-counted : (b : Board) (z : ℕ) → z + zeros (answers b []) ≡ z
-unfolding answers zeros
+unfolding allAnswers zeros
 none-counted b z = add-zero z
 
 -- i turns are taken, the board is b, and z of the steps were accepted

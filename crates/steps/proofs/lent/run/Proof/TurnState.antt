@@ -21,7 +21,8 @@ use Rattle.rules.specs.declared.Outcome.{Outcome}
 use Rattle.rules.proofs.Outcome as O
 use Rattle.rules.proofs.Outcome.Laws as O′
 use Rattle.steps.specs.Turns.{refusalOf, turnsOf, countedOf}
-use Rattle.steps.proofs.RunTurns.{begun, noStep, taken, counts, written}
+use Rattle.steps.specs.NoStep.{noStep}
+use Rattle.steps.proofs.RunTurns.{begun, taken, counts, written}
 use Rattle.steps.proofs.RunLaws.{taken-sound, counts-le, written-length, allowed}
 use Rattle.steps.proofs.PlainData.{board, stepRecord, outcome}
 
