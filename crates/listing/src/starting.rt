@@ -2,6 +2,7 @@
 use crate::rows::bytes_of;
 use board::blank;
 use board::open;
+use numbers::ROOM;
 use numbers::line_at;
 use rules::Outcome;
 use rules::Verdict;
@@ -30,7 +31,7 @@ fn refused(answer: u16) -> Outcome
 }
 
 // The board that a board line opens, by the first of its entries.
-fn opened(m: u16, d: u16, parents: [u16; 128], count: u16) -> Outcome
+fn opened(m: u16, d: u16, parents: [u16; ROOM], count: u16) -> Outcome
     requires { ⌜ count ≤ room ⌝ }
     ensures { λ o. ⌜ o ≡ opening m d (take count parents) ⌝ }
 {

@@ -2,12 +2,11 @@
 mod lines;
 mod reading;
 
-pub use lines::NEWLINE;
 pub use lines::line_at;
 pub use reading::read_numbers;
 
 // As many numbers as a line of 255 bytes has room for.
-const ROOM: usize = 128;
+pub const ROOM: usize = 128;
 
 // The number fields of a line: how many there are, the number that refuses the line, or 0, and their values with zeros behind
 // them. A refused line has no values.

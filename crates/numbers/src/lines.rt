@@ -5,7 +5,7 @@ ghost use mathlib.Core.Path.{_≡_};
 ghost use Rattle.numbers.specs.Lines.{lineAt};
 
 // What ends a line of a text.
-pub const NEWLINE: u8 = 10;
+const NEWLINE: u8 = 10;
 
 // The line at a place of a text. At the text's end, and past it, there is none: it ends there, and so does the text.
 pub fn line_at(text: &[u8], at: usize) -> LineAt

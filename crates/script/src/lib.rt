@@ -5,6 +5,7 @@ mod writing;
 
 pub use lines::read_board;
 pub use lines::read_line;
+use numbers::ROOM;
 use rules::StepRecord;
 pub use writing::write_step;
 ghost use mathlib.Core.Path.{_≡_};
@@ -15,12 +16,6 @@ pub enum Reading {
     Opens(u16, u16, u16),
     Asks(StepRecord),
     Refused(u16),
-}
-
-// A first line, with the parents of a line that opens a board and zeros behind them; of any other line all are zeros.
-pub struct BoardLine {
-    pub reading: Reading,
-    pub parents: [u16; 128],
 }
 
 impl Reading {
@@ -34,4 +29,10 @@ impl Reading {
             Reading::Refused(k) => k,
         }
     }
+}
+
+// A first line, with the parents of a line that opens a board and zeros behind them; of any other line all are zeros.
+pub struct BoardLine {
+    pub reading: Reading,
+    pub parents: [u16; ROOM],
 }

@@ -3,6 +3,7 @@ use crate::BoardLine;
 use crate::Reading;
 use crate::words::word_number;
 use fields::TAB;
+use numbers::ROOM;
 use numbers::read_numbers;
 use rules::KINDS;
 use rules::StepRecord;
@@ -114,7 +115,7 @@ fn opens(r: Reading) -> bool
 }
 
 // The numbers behind M and d.
-fn parents_of(line: &[u8]) -> [u16; 128]
+fn parents_of(line: &[u8]) -> [u16; ROOM]
     requires { ⌜ isOpening (reading true (now line)) ≡ true ⌝ }
     ensures { λ r. ⌜ r ≡ padded room (parentsOf (now (line .entry))) ⌝ }
 {
@@ -134,6 +135,6 @@ pub fn read_board(line: &[u8]) -> BoardLine
         let parents = parents_of(line);
         return BoardLine { reading, parents };
     }
-    let parents = [0u16; 128];
+    let parents = [0u16; ROOM];
     BoardLine { reading, parents }
 }
