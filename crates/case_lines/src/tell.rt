@@ -24,8 +24,7 @@ fn refused(k: u16) {
     cell(k as u64);
 }
 
-fn parents(line: &[u8], count: u16) {
-    let list = script::read_parents(line);
+fn parents(list: [u16; 128], count: u16) {
     let n = count as usize;
     for i in 0..128 {
         if i < n {
@@ -43,14 +42,14 @@ fn asked(r: StepRecord) {
 }
 
 // M, d and how many parents there are, then the parents; or kind, unit, other and slot; or the refusal.
-fn told(line: &[u8], r: Reading) {
+fn told(r: Reading, list: [u16; 128]) {
     match r {
         Reading::Opens(m, d, count) => {
             text(b"opens");
             cell(m as u64);
             cell(d as u64);
             cell(count as u64);
-            parents(line, count);
+            parents(list, count);
         }
         Reading::Asks(s) => asked(s),
         Reading::Refused(k) => refused(k),
@@ -59,11 +58,14 @@ fn told(line: &[u8], r: Reading) {
 }
 
 pub(crate) fn first(line: &[u8]) {
-    told(line, script::read_line(line, true));
+    let b = script::read_board(line);
+    let r = b.reading;
+    let list = b.parents;
+    told(r, list);
 }
 
 pub(crate) fn later(line: &[u8]) {
-    told(line, script::read_line(line, false));
+    told(script::read_line(line, false), [0u16; 128]);
 }
 
 // A bar shows a tab, a slash byte 10.

@@ -79,12 +79,3 @@ module _ (n : ℕ) where
 
   pub below-count : n < 10 ^ 20 → n < 10 ^ digitCount n
   below-count h = up-to-below 19 h
-
-  -- ---- and the first is needed
-  up-to-power : 1 ≤ n → (k : ℕ) → 10 ^ pred (digitsUpTo k n) ≤ n
-  unfolding digitsUpTo
-  up-to-power p zero = p
-  up-to-power p (suc k) = by-power (λ d. 10 ^ pred d ≤ n) k (λ l. l) (λ l. up-to-power p k)
-
-  pub count-power : 1 ≤ n → 10 ^ pred (digitCount n) ≤ n
-  count-power p = up-to-power p 19

@@ -1,38 +1,19 @@
--- Laws of the fields of a line: where a field stands, what the first of joined fields is, and what the code's loops rest on.
-use mathlib.Core.Path.{_≡_, refl, sym, ap}
-use mathlib.Core.List.{List, [], _∷_, _++_}
+-- Laws of the fields of a line: how many there are, where a field stands, and what the code's loops rest on.
+use mathlib.Core.Path.{_≡_, refl}
+use mathlib.Core.List.{List, []}
 use Prim.Native.Nat.{ℕ, zero, suc, _+_, _-_, _≤_, _<_}
 use native.Mathlib.Numerals.{add-one}
 use native.Mathlib.Omega.{arith}
 use lib.ListN.{length, take, drop, length-drop, drop-of-length-le}
 use lib.Seq.{drop-drop, drop-length}
 use Rattle.fields.specs.Fields.{upTo, past, countOf, endFrom, tab, fieldOf, fieldStart, fieldCount}
-use Rattle.fields.proofs.PartLaws.{upTo-joined, past-joined, count-joined, upTo-whole, past-whole, upTo-take, past-at-most, past-stands, count-past, upTo-none, end-is, end-after, end-at-most, upTo-from, past-from}
+use Rattle.fields.proofs.PartLaws.{count-few, past-whole, past-at-most, past-stands, count-past, end-after, end-at-most, upTo-from, past-from}
 
--- ---- fields that are joined by tabs
-
-module _ (w : List ℕ) (none : countOf tab w ≡ 0) where
-  pub first-joined : (r : List ℕ) → fieldOf 0 (w ++ tab ∷ r) ≡ w
-  unfolding fieldOf
-  first-joined r = upTo-joined tab w none r
-
-  pub next-joined : (k : ℕ) (r : List ℕ) → fieldOf (suc k) (w ++ tab ∷ r) ≡ fieldOf k r
-  unfolding fieldOf
-  next-joined k r = ap (fieldOf k) (past-joined tab w none r)
-
-  pub count-joined-fields : (r : List ℕ) → fieldCount (w ++ tab ∷ r) ≡ suc (fieldCount r)
-  unfolding fieldCount
-  count-joined-fields r = ap suc (count-joined tab w none r)
-
-  pub first-alone : fieldOf 0 w ≡ w
-  unfolding fieldOf
-  first-alone = upTo-whole tab w none
-
-  pub count-alone : fieldCount w ≡ 1
-  unfolding fieldCount
-  count-alone = ap suc none
-
--- ---- where a field stands
+-- ---- how many there are, and where a field stands
+-- a line has at most one field more than bytes
+pub count-at-most : (l : List ℕ) → fieldCount l ≤ suc (length l)
+unfolding fieldCount
+count-at-most l = omega (arith, count-few tab l)
 
 pub start-at-most : (k : ℕ) (l : List ℕ) → fieldStart k l ≤ length l
 unfolding fieldStart
@@ -44,16 +25,6 @@ pub field-from : (k : ℕ) (l : List ℕ) → fieldOf k l ≡ upTo tab (drop (fi
 unfolding fieldOf fieldStart
 field-from zero l = refl
 field-from (suc k) l = rw (field-from k (past tab l), ← drop-drop (fieldStart k (past tab l)) (length l - length (past tab l)) l, ← past-stands tab l)
-
-pub field-stands : (k : ℕ) (l : List ℕ) → fieldOf k l ≡ take (length (fieldOf k l)) (drop (fieldStart k l) l)
-field-stands k l = rw (field-from k l) (upTo-take tab (drop (fieldStart k l) l))
-
-pub field-end : (k : ℕ) (l : List ℕ) → fieldStart k l + length (fieldOf k l) ≡ endFrom tab (fieldStart k l) l
-field-end k l = rw (field-from k l) (sym (end-is tab (fieldStart k l) l (start-at-most k l)))
-
--- no byte of a field is a tab
-pub field-none : (k : ℕ) (l : List ℕ) → countOf tab (fieldOf k l) ≡ 0
-field-none k l = rw (field-from k l) (upTo-none tab (drop (fieldStart k l) l))
 
 -- a field that starts at the line's end is empty
 pub field-at-end : (k : ℕ) (l : List ℕ) → fieldStart k l ≡ length l → fieldOf k l ≡ []

@@ -23,6 +23,15 @@ count-append e (c ∷ a) b = at _ _ _ (eqb c e) (count-append e a b)
     at p q r true h = omega arith
     at p q r false h = h
 
+pub count-few : (e : ℕ) (l : List ℕ) → countOf e l ≤ length l
+unfolding countOf
+count-few e [] = omega arith
+count-few e (c ∷ l) = at (eqb c e) (count-few e l)
+  where
+    at : (t : Bool) {n m : ℕ} → n ≤ m → cond t (suc n) n ≤ suc m
+    at true h = omega arith
+    at false h = omega arith
+
 -- ---- a word without the separator in front
 
 -- where no byte of c ∷ w is the separator, c is not, and none of w is
@@ -112,17 +121,6 @@ count-past e (c ∷ l) = at (eqb c e) (past e l) (count-past e l)
     at true p h = omega arith
     at false p h = h
 
--- no byte before the first separator is one
-none-kept : (e c : ℕ) (u : List ℕ) (t : Bool) → eqb c e ≡ t → countOf e u ≡ 0 → countOf e (cond t [] (c ∷ u)) ≡ 0
-unfolding countOf
-none-kept e c u true q h = refl
-none-kept e c u false q h = rw (q, h)
-
-pub upTo-none : (e : ℕ) (l : List ℕ) → countOf e (upTo e l) ≡ 0
-unfolding upTo countOf
-upTo-none e [] = refl
-upTo-none e (c ∷ l) = none-kept e c (upTo e l) (eqb c e) refl (upTo-none e l)
-
 -- a list that has the separator is its two parts, joined
 pub parted : (e : ℕ) (l : List ℕ) → 0 < countOf e l → upTo e l ++ e ∷ past e l ≡ l
 unfolding upTo past countOf
@@ -175,11 +173,3 @@ module _ (e i : ℕ) (l : List ℕ) (here : i < length l) where
   pub end-next : (getD l i 0 ≡ e → ⊥) → endFrom e (i + 1) l ≡ endFrom e i l
   unfolding endFrom upTo
   end-next q = rw (add-one, le-leb i (length l) (omega arith), le-leb (suc i) (length l) here, drop-cons l i 0 here, ne-eqb (getD l i 0) e q) (omega arith)
-
-  pub count-here : getD l i 0 ≡ e → countOf e (drop i l) ≡ 1 + countOf e (drop (i + 1) l)
-  unfolding countOf
-  count-here q = rw (add-one, drop-cons l i 0 here, eq-eqb (getD l i 0) e q) (omega arith)
-
-  pub count-next : (getD l i 0 ≡ e → ⊥) → countOf e (drop i l) ≡ countOf e (drop (i + 1) l)
-  unfolding countOf
-  count-next q = rw (add-one, drop-cons l i 0 here, ne-eqb (getD l i 0) e q)

@@ -2,7 +2,7 @@
 ghost use mathlib.Core.Path.{_≡_};
 ghost use Prim.Native.Nat.{_+_};
 ghost use denote.Ref.{ptr};
-ghost use Rattle.fields.specs.Fields.{fieldOf, fieldStart, fieldCount, endFrom};
+ghost use Rattle.fields.specs.Fields.{fieldOf, fieldStart, endFrom};
 
 // What parts the fields of a line.
 pub const TAB: u8 = 9;
@@ -53,19 +53,4 @@ pub fn field(line: &[u8], k: usize) -> &[u8]
     }
     let end = end_from(line, start, TAB);
     &line[start..end]
-}
-
-// How many fields a line has: one more than its tabs.
-pub fn field_count(line: &[u8]) -> usize
-    ensures { λ r. ⌜ r ≡ fieldCount (now (line .entry)) ⌝ }
-{
-    let mut n: usize = 1;
-    let mut i = 0;
-    while i < line.len() {
-        if line[i] == TAB {
-            n += 1;
-        }
-        i += 1;
-    }
-    n
 }

@@ -22,13 +22,14 @@ use Rattle.rules.specs.declared.Outcome.{Outcome}
 use Rattle.rules.specs.declared.Verdict.{Verdict}
 use Rattle.steps.specs.NoStep.{noStep}
 use Rattle.fields.specs.Fields.{upTo}
+use Rattle.numbers.specs.Lines.{behind}
 use Rattle.script.specs.Lines.{reading, refusalBy}
 use Rattle.script.specs.declared.Reading.{Reading}
 use Rattle.script.specs.declared.Reading.the-variants.{Opens, Asks, Refused}
 use Rattle.texts.specs.Texts.{lineText, boardText}
 use Rattle.listing.specs.Scripts.{lineOutcome, laterOutcome}
 use Rattle.listing.specs.Bounds.{longestLine}
-use Rattle.listing.specs.Parts.{Piece, behind, nextNumber, laterPiece, piece, before, partWithin}
+use Rattle.listing.specs.Parts.{Piece, nextNumber, laterPiece, piece, before, partWithin}
 use Rattle.listing.specs.Batches.{linesAt, placeAfter, recordOf, recordsOf, refusalsOf}
 use Rattle.listing.proofs.StartLaws.{reading-number}
 use Rattle.listing.proofs.PieceLaws.{laterCursor, outcomeAt}

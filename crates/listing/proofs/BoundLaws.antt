@@ -9,9 +9,10 @@ use borrow.Author.Tests.{eq-eqb, ne-eqb}
 use Rattle.rules.proofs.SoundLaws.{below-or-not}
 use Rattle.rules.specs.declared.Outcome.{Outcome}
 use Rattle.fields.specs.Fields.{upTo}
+use Rattle.numbers.specs.Lines.{behind}
 use Rattle.listing.specs.Scripts.{startOutcome, listing}
 use Rattle.listing.specs.Bounds.{longestPiece, longestLine, ListingBoundByLength, ListingBound}
-use Rattle.listing.specs.Parts.{Piece, beginning, ended, behind, firstPiece, laterPiece, piece, restWithin, rest}
+use Rattle.listing.specs.Parts.{Piece, beginning, ended, firstPiece, laterPiece, piece, restWithin, rest}
 use Rattle.listing.specs.Turns.{startPlace}
 use Rattle.listing.proofs.StartLaws.{Started, opened, refused, starts, startCursor, start-next}
 use Rattle.listing.proofs.PieceLaws.{piece-later, later-begun, turns, past-fewer, piece-fewer, rest-piece, rest-beginning}

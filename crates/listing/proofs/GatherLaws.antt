@@ -2,27 +2,21 @@
 use mathlib.Core.Path.{_≡_, refl, sym, ap, _∙_}
 use mathlib.Core.Bool.{Bool, false, cond}
 use mathlib.Core.List.{List, [], _∷_, _++_, append-assoc, append-nil}
-use Prim.Native.Nat.{ℕ, zero, suc, _+_, _-_, _≤_, _<_, min}
+use Prim.Native.Nat.{ℕ, zero, suc, _+_, _-_, _≤_, _<_}
 use native.Mathlib.Nat.{sub-zero}
 use native.Mathlib.Numerals.{add-one}
 use native.Mathlib.Omega.{arith}
-use lib.ListN.{length, take, drop, set, length-take, length-drop, length-set}
+use lib.ListN.{length, take, drop, set, length-take, length-set}
 use lib.Seq.{take-suc-set}
 use borrow.Author.Tests.{le-leb, lt-leb}
 use Rattle.rules.specs.Runs.{batchMost}
 use Rattle.rules.specs.declared.StepRecord.{StepRecord}
-use Rattle.fields.specs.Fields.{upTo, endFrom}
-use Rattle.fields.proofs.PartLaws.{past-from, end-at-most}
+use Rattle.fields.specs.Fields.{upTo}
+use Rattle.numbers.specs.Lines.{behind}
 use Rattle.script.specs.Lines.{reading, refusalBy}
 use Rattle.script.specs.declared.Reading.{Reading}
-use Rattle.listing.specs.Parts.{behind}
 use Rattle.listing.specs.Batches.{linesAt, placeAfter, recordOf, recordsOf, refusalsOf}
 use Rattle.listing.specs.Turns.{Gathers}
-
--- the place behind a line that ends at e
-pub behind-end : (at : ℕ) (s : List ℕ) {e : ℕ} → at ≤ length s → e ≡ endFrom 10 at s → min (suc e) (length s) ≡ behind at s
-behind-end at s {e} l q =
-    omega (arith, ap length (past-from 10 at s l), length-drop (suc (endFrom 10 at s)) s, end-at-most 10 at s, q)
 
 -- at the head of each turn, with i lines gathered
 pub record Turn (s : List ℕ) (from most : ℕ) (steps : List StepRecord) (refusals : List ℕ) (at i : ℕ) : Type 0 where

@@ -18,6 +18,7 @@ use Rattle.rules.specs.declared.Outcome.{Outcome}
 use Rattle.rules.specs.declared.Verdict.{Verdict}
 use Rattle.rules.specs.declared.Verdict.the-variants.{Working, Finished, Refused as RefusedVerdict}
 use Rattle.fields.specs.Fields.{upTo}
+use Rattle.numbers.specs.Lines.{behind}
 use Rattle.script.specs.Lines.{reading}
 use Rattle.script.specs.declared.Reading.{Reading}
 use Rattle.script.specs.declared.Reading.the-variants.{Opens, Asks, Refused}
@@ -26,7 +27,7 @@ use Rattle.decimal.proofs.CountLaws.{count-bound}
 use Rattle.texts.specs.Texts.{heading, refusedWord, stateWord, lineText, boardText, refusedText}
 use Rattle.listing.specs.Scripts.{lineOutcome, laterOutcome, startOutcome}
 use Rattle.listing.specs.Bounds.{longestPiece, longestLine}
-use Rattle.listing.specs.Parts.{Piece, ended, behind, openedPiece, firstPiece, nextNumber, laterPiece, piece, stops, before, partWithin}
+use Rattle.listing.specs.Parts.{Piece, ended, openedPiece, firstPiece, nextNumber, laterPiece, piece, stops, before, partWithin}
 use Rattle.listing.specs.Batches.{linesAt}
 use Rattle.listing.specs.Turns.{startPlace}
 use Rattle.texts.proofs.TextLaws.{line-length}

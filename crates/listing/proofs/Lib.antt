@@ -1,4 +1,3 @@
-pub mod LineLaws
 pub mod StartLaws
 pub mod PieceLaws
 pub mod LengthLaws

@@ -11,10 +11,11 @@ use borrow.Author.Tests.{eqb-true, leb-false, le-leb, lt-leb}
 use Rattle.rules.specs.declared.Board.{Board}
 use Rattle.rules.specs.declared.Outcome.{Outcome}
 use Rattle.fields.specs.Fields.{upTo, past}
+use Rattle.numbers.proofs.LineLaws.{past-shorter, behind-drop, lines-behind}
+use Rattle.numbers.specs.Lines.{linesWithin, behind}
 use Rattle.texts.specs.Texts.{heading, boardText, refusedText}
-use Rattle.listing.specs.Scripts.{linesWithin, laterOutcome, startOutcome, textOf, laterLines, openedText, listing}
-use Rattle.listing.specs.Parts.{Piece, beginning, ended, behind, refusedPiece, openedPiece, firstPiece, nextNumber, laterPiece, piece, restWithin, rest, stops, before, partWithin}
-use Rattle.listing.proofs.LineLaws.{past-shorter, behind-drop, lines-behind}
+use Rattle.listing.specs.Scripts.{laterOutcome, startOutcome, textOf, laterLines, openedText, listing}
+use Rattle.listing.specs.Parts.{Piece, beginning, ended, refusedPiece, openedPiece, firstPiece, nextNumber, laterPiece, piece, restWithin, rest, stops, before, partWithin}
 use Rattle.listing.proofs.StartLaws.{start-short, start-next}
 use Rattle.listing.specs.declared.Cursor.{Cursor}
 

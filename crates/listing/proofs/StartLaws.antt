@@ -16,13 +16,15 @@ use Rattle.rules.proofs.Theorem.{opening-sound}
 use Rattle.rules.specs.declared.Outcome.{Outcome}
 use Rattle.rules.specs.declared.Verdict.the-variants.{Finished, Refused as RefusedVerdict}
 use Rattle.fields.specs.Fields.{upTo, fieldOf}
+use Rattle.numbers.specs.Lines.{behind}
+use Rattle.numbers.specs.Numbers.{values}
 use Rattle.script.specs.Words.{wordNumber}
-use Rattle.script.specs.Lines.{arguments, values, lineChecks, readingBy, reading, parentsOf}
+use Rattle.script.specs.Lines.{arguments, lineChecks, readingBy, reading, parentsOf}
 use Rattle.script.specs.declared.Reading.{Reading}
 use Rattle.script.specs.declared.Reading.the-variants.{Opens, Asks, Refused}
 use Rattle.texts.specs.Texts.{heading, lineText, boardText, refusedText}
 use Rattle.listing.specs.Scripts.{firstOutcome, startChecks, startOutcome}
-use Rattle.listing.specs.Parts.{Piece, behind, refusedPiece, openedPiece, firstPiece}
+use Rattle.listing.specs.Parts.{Piece, refusedPiece, openedPiece, firstPiece}
 use Rattle.listing.specs.Turns.{startPlace}
 use Rattle.listing.specs.declared.Cursor.{Cursor}
 

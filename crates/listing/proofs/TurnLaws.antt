@@ -18,9 +18,10 @@ use Rattle.rules.specs.declared.StepRecord.{StepRecord}
 use Rattle.rules.specs.declared.Batch.{Batch}
 use Rattle.rules.specs.declared.Ran.the-variants.{Zeros, Refused}
 use Rattle.fields.specs.Fields.{upTo}
+use Rattle.numbers.specs.Lines.{behind}
 use Rattle.texts.specs.Texts.{boardText}
 use Rattle.listing.specs.Bounds.{longestLine}
-use Rattle.listing.specs.Parts.{Piece, behind, nextNumber, laterPiece, piece, before, partWithin}
+use Rattle.listing.specs.Parts.{Piece, nextNumber, laterPiece, piece, before, partWithin}
 use Rattle.listing.specs.Batches.{linesAt, placeAfter, recordsOf, refusalsOf}
 use Rattle.listing.specs.Turns.{Gathers, Placed, rowsInto, cursorOf, batchSize, Advances}
 use Rattle.listing.proofs.PieceLaws.{laterCursor, outcomeAt}

@@ -8,10 +8,10 @@ use lib.Dec.{leb}
 use Rattle.rules.specs.declared.StepRecord.{StepRecord}
 use Rattle.steps.specs.NoStep.{noStep}
 use Rattle.fields.specs.Fields.{upTo}
+use Rattle.numbers.specs.Lines.{behind}
 use Rattle.script.specs.Lines.{reading, refusalBy}
 use Rattle.script.specs.declared.Reading.{Reading}
 use Rattle.script.specs.declared.Reading.the-variants.{Opens, Asks, Refused}
-use Rattle.listing.specs.Parts.{behind}
 
 -- at most k lines from a place on, and the place behind them
 unfoldable pub linesAt : ℕ → ℕ → List ℕ → List (List ℕ)

@@ -11,11 +11,12 @@ use Rattle.rules.specs.Guarantee.{Guaranteed}
 use Rattle.rules.specs.declared.Board.{Board}
 use Rattle.rules.specs.declared.StepRecord.{StepRecord}
 use Rattle.fields.specs.Fields.{upTo}
+use Rattle.numbers.specs.Lines.{linesOf}
 use Rattle.script.specs.Lines.{reading, parentsOf}
 use Rattle.script.specs.declared.Reading.{Reading}
 use Rattle.script.specs.declared.Reading.the-variants.{Opens, Asks, Refused}
 use Rattle.texts.specs.Texts.{heading, finishedWord, stateWord}
-use Rattle.listing.specs.Scripts.{linesOf, startOutcome, Line, textOf, openedLines, listing}
+use Rattle.listing.specs.Scripts.{startOutcome, Line, textOf, openedLines, listing}
 
 -- the outcome of the first line is an opening, by the M, the d and the parents that stand in it
 pub record OpenedBy (s : List ℕ) : Type 0 where

@@ -11,7 +11,8 @@ use Rattle.rules.specs.Sound.{sound}
 use Rattle.rules.specs.Opening.{blankBoard}
 use Rattle.rules.specs.declared.Outcome.{Outcome}
 use Rattle.placing.specs.declared.Wrote.the-variants.{Count, Refused}
-use Rattle.fields.specs.Fields.{upTo, past}
+use Rattle.fields.specs.Fields.{upTo}
+use Rattle.numbers.specs.Lines.{behind}
 use Rattle.texts.specs.Texts.{heading, boardText, refusedText}
 use Rattle.listing.specs.Scripts.{laterOutcome, startOutcome, listing}
 pub use Rattle.listing.specs.Bounds.{longestPiece, longestLine}
@@ -29,10 +30,6 @@ beginning = record { begun = false; at = 0; line = 0; board = blankBoard }
 -- behind the whole listing; "a place past the end is the end"
 abbrev pub ended : Cursor → List ℕ → Bool
 ended c s = c .begun && leb (length s) (c .at)
-
--- behind the line at a place
-abbrev pub behind : ℕ → List ℕ → ℕ
-behind at s = length s - length (past 10 (drop at s))
 
 -- after a refused first line nothing follows
 abbrev pub refusedPiece : List ℕ → ℕ → Piece

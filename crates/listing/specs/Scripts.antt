@@ -1,7 +1,7 @@
 -- The listing of a whole script, from its bytes to the listing's bytes.
 use mathlib.Core.Bool.{true, false, cond}
 use mathlib.Core.List.{List, [], _∷_, _++_}
-use Prim.Native.Nat.{ℕ, zero, suc}
+use Prim.Native.Nat.{ℕ, suc}
 use lib.ListN.{length, drop}
 use lib.Dec.{eqb}
 use Rattle.rules.specs.Facts.{Check, check, atMost, judge}
@@ -9,21 +9,12 @@ use Rattle.rules.specs.Opening.{refusedBy, opening}
 use Rattle.rules.specs.Steps.{step}
 use Rattle.rules.specs.declared.Board.{Board}
 use Rattle.rules.specs.declared.Outcome.{Outcome}
-use Rattle.fields.specs.Fields.{upTo, past}
+use Rattle.fields.specs.Fields.{upTo}
+use Rattle.numbers.specs.Lines.{linesOf}
 use Rattle.script.specs.Lines.{reading, parentsOf}
 use Rattle.script.specs.declared.Reading.{Reading}
 use Rattle.script.specs.declared.Reading.the-variants.{Opens, Asks, Refused}
 use Rattle.texts.specs.Texts.{heading, boardText, refusedText}
-
--- lines ended by byte 10; a last line may lack it, and after a last byte 10 no further line begins. A line has at least one byte of the
--- script, its own or its byte 10, so the script's length is turns enough
-unfoldable pub linesWithin : ℕ → List ℕ → List (List ℕ)
-linesWithin zero s = []
-linesWithin (suc k) [] = []
-linesWithin (suc k) (c ∷ cs) = upTo 10 (c ∷ cs) ∷ linesWithin k (past 10 (c ∷ cs))
-
-abbrev pub linesOf : List ℕ → List (List ℕ)
-linesOf s = linesWithin (length s) s
 
 -- ---- the start of a script: the outcome of its first line
 -- the first line opens the board, by its parents ps, or the listing is one refused line. (A step there has been refused by 25)

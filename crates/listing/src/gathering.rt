@@ -1,18 +1,15 @@
 // Script lines gathered as step records, for a batch.
-use fields::end_from;
+use numbers::line_at;
 use rules::BATCH;
 use rules::StepRecord;
 use script::Reading;
 use script::read_line;
 ghost use mathlib.Core.Path.{_≡_};
-ghost use Prim.Native.Nat.{suc, _≤_, min};
+ghost use Prim.Native.Nat.{_≤_};
 ghost use Rattle.rules.specs.Runs.{batchMost};
 ghost use Rattle.steps.specs.NoStep.{noStep};
 ghost use Rattle.listing.specs.Batches.{linesAt, placeAfter, recordOf};
 ghost use Rattle.listing.specs.Turns.{Gathers};
-
-// What ends a line of a script.
-pub(crate) const NEWLINE: u8 = 10;
 
 // Lines as step records, the numbers that refuse those among them that are no step, and the place behind them.
 pub(crate) struct Gathered {
@@ -44,16 +41,6 @@ fn no_step() -> StepRecord
     }
 }
 
-// The place behind a line that ends at `end`.
-pub(crate) fn behind(end: usize, length: usize) -> usize
-    ensures { λ r. ⌜ r ≡ min (suc end) length ⌝ }
-{
-    if end < length {
-        return end + 1;
-    }
-    length
-}
-
 // At most `most` lines from a place on.
 pub(crate) fn gather(script: &[u8], from: usize, most: usize) -> Gathered
     requires { ⌜ most ≤ batchMost ⌝ }
@@ -72,11 +59,12 @@ pub(crate) fn gather(script: &[u8], from: usize, most: usize) -> Gathered
                 at,
             };
         }
-        let end = end_from(script, at, NEWLINE);
+        let l = line_at(script, at);
+        let end = l.end;
         let line = read_line(&script[at..end], false);
         steps[i] = record_of(line);
         refusals[i] = line.refusal();
-        at = behind(end, script.len());
+        at = l.next;
         i += 1;
     }
     Gathered {

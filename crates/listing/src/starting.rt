@@ -1,23 +1,23 @@
 // The first line of a script: the board that it opens, or the number that refuses it.
-use crate::gathering::NEWLINE;
-use crate::gathering::behind;
 use crate::rows::bytes_of;
 use board::blank;
 use board::open;
-use fields::end_from;
+use numbers::ROOM;
+use numbers::line_at;
 use rules::Outcome;
 use rules::Verdict;
 use script::Reading;
-use script::read_line;
-use script::read_parents;
+use script::read_board;
 use texts::write_heading;
 use texts::write_line;
 ghost use mathlib.Core.Path.{_≡_};
 ghost use mathlib.Core.Bool.{true};
 ghost use mathlib.Core.List.{_++_};
+ghost use Prim.Native.Nat.{_≤_};
+ghost use lib.ListN.{take};
 ghost use Rattle.rules.specs.Opening.{opening, refusedBy};
 ghost use Rattle.script.specs.Lines.{reading, parentsOf};
-ghost use Rattle.script.specs.declared.Reading.the-variants.{Opens};
+ghost use Rattle.numbers.specs.Numbers.{room};
 ghost use Rattle.placing.specs.Placing.{wrote, written};
 ghost use Rattle.texts.specs.Texts.{heading, lineText};
 ghost use Rattle.listing.specs.Scripts.{firstOutcome, startOutcome};
@@ -30,22 +30,23 @@ fn refused(answer: u16) -> Outcome
     Outcome { answer, board }
 }
 
-// The board that a board line opens.
-fn opened(line: &[u8], m: u16, d: u16, parents: u16) -> Outcome
-    requires { ⌜ reading true (now line) ≡ Opens m d parents ⌝ }
-    ensures { λ o. ⌜ o ≡ opening m d (parentsOf (now (line .entry))) ⌝ }
+// The board that a board line opens, by the first of its entries.
+fn opened(m: u16, d: u16, parents: [u16; ROOM], count: u16) -> Outcome
+    requires { ⌜ count ≤ room ⌝ }
+    ensures { λ o. ⌜ o ≡ opening m d (take count parents) ⌝ }
 {
-    let list = read_parents(line);
-    let count = parents as usize;
-    open(m, d, &list[0..count])
+    let n = count as usize;
+    open(m, d, &parents[0..n])
 }
 
 fn first_outcome(line: &[u8]) -> Outcome
     ensures { λ o. ⌜ o ≡ firstOutcome (parentsOf (now (line .entry))) (reading true (now (line .entry))) ⌝ }
 {
-    let r = read_line(line, true);
+    let b = read_board(line);
+    let parents = b.parents;
+    let r = b.reading;
     match r {
-        Reading::Opens(m, d, parents) => opened(line, m, d, parents),
+        Reading::Opens(m, d, count) => opened(m, d, parents, count),
         Reading::Asks(_) => refused(25),
         Reading::Refused(k) => refused(k),
     }
@@ -61,7 +62,8 @@ pub(crate) fn start_outcome(script: &[u8]) -> Outcome
     if script.len() < 1 {
         return refused(25);
     }
-    let end = end_from(script, 0, NEWLINE);
+    let l = line_at(script, 0);
+    let end = l.end;
     first_outcome(&script[0..end])
 }
 
@@ -69,9 +71,9 @@ pub(crate) fn start_outcome(script: &[u8]) -> Outcome
 pub(crate) fn start_place(answer: u16, script: &[u8]) -> usize
     ensures { λ r. ⌜ r ≡ startPlace (now (script .entry)) answer ⌝ }
 {
-    let end = end_from(script, 0, NEWLINE);
+    let l = line_at(script, 0);
     if answer == 0 {
-        return behind(end, script.len());
+        return l.next;
     }
     script.len()
 }

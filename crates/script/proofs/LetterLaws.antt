@@ -16,10 +16,11 @@ use Rattle.rules.specs.Guarantee.{Fits16}
 use Rattle.rules.specs.declared.Action.{Action}
 use Rattle.rules.specs.declared.StepRecord.{StepRecord}
 use Rattle.rules.proofs.LetterLaws.{values-length, letters-three, read-fits}
+use Rattle.numbers.specs.Numbers.{tabbed}
+use Rattle.numbers.proofs.JoinLaws.{Small, tabbed-length}
 use Rattle.script.specs.Words.{words}
-use Rattle.script.specs.Writing.{lettersOf, tabbed, stepLine, stepText, stepWrote, stepWritten}
+use Rattle.script.specs.Writing.{lettersOf, stepLine, stepText, stepWrote, stepWritten}
 use Rattle.script.proofs.KindLaws.{by-kind}
-use Rattle.script.proofs.TabLaws.{Small, tabbed-length}
 
 -- a step has at most three letters, and each is small
 pub letters-small : (r : StepRecord) (a : Action) → Fits16 r → Small (lettersOf r a)

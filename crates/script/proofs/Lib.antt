@@ -1,9 +1,7 @@
 pub mod WordLaws
 pub mod KindLaws
-pub mod ArgumentLaws
 pub mod LineLaws
 pub mod TabLaws
 pub mod LetterLaws
-pub mod JoinLaws
 pub mod RoundTrip
 pub mod ParentLaws

@@ -1,82 +1,113 @@
--- The parents of a line that opens a board: their number is told, at most 123 fit, and the entries start with them.
+-- The parents of a line that opens a board: their number is told, they are the numbers behind M and d, and all of them are kept.
 use mathlib.Core.Path.{_≡_, refl, sym, ap, subst, _∙_}
-use mathlib.Core.Bool.{Bool, true}
-use mathlib.Core.List.{List, _∷_, _++_}
+use mathlib.Core.Bool.{Bool, true, false, cond, false≢true}
+use mathlib.Core.List.{List, []}
 use Prim.Native.Nat.{ℕ, zero, suc, _+_, _-_, _≤_}
 use native.Mathlib.Omega.{arith}
-use lib.ListN.{length, take, replicate}
-use lib.Seq.{take-at}
+use lib.ListN.{length, take, drop, replicate, length-drop}
+use lib.Seq.{drop-drop}
 use Rattle.rules.specs.Facts.{Claim, Claims}
 use Rattle.rules.proofs.FactLaws.{asked, judge-passed}
 use Rattle.rules.proofs.JudgeLaws.{Numbered, Judged, passed, failed, judged}
-use Rattle.fields.specs.Fields.{fieldOf, fieldCount}
-use Rattle.script.specs.Words.{boardWord, wordNumber}
-use Rattle.script.specs.Lines.{fieldsFrom, arguments, allNumbers, values, rightCount, lineChecks, readingBy, reading, parentsOf}
-use Rattle.script.specs.Entries.{parentEntries}
+use Rattle.fields.specs.Fields.{tab, endFrom, fieldOf, fieldStart, fieldCount}
+use Rattle.numbers.specs.Numbers.{fieldsOf, fieldsAt, allNumbers, values, padded, room, numbersAt}
+use Rattle.numbers.specs.declared.Numbers.{Numbers}
+use Rattle.numbers.proofs.PlaceLaws.{fields-after}
+use Rattle.numbers.proofs.NumberLaws.{numbers-drop, numbers-list, numbers-fit, values-drop, values-length, padded-take, padded-none}
+use Rattle.script.specs.Words.{wordNumber}
+use Rattle.script.specs.Lines.{arguments, rightCount, lineChecks, readingBy, reading, isOpening, parentsOf, boardLine}
+use Rattle.script.specs.declared.BoardLine.{BoardLine}
 use Rattle.script.specs.declared.Reading.{Reading}
 use Rattle.script.specs.declared.Reading.the-variants.{Opens, Refused}
-use Rattle.script.proofs.WordLaws.{first-is}
-use Rattle.script.proofs.ArgumentLaws.{numbers-tail, entries-padded, values-length, arguments-room}
 
 -- ---- what a line that opens a board passed
-pub record OpensLine (l : List ℕ) (n : ℕ) : Type 0 where
-  pub short : length l ≤ 255
-  pub word : fieldOf 0 l ≡ boardWord
-  pub count : fieldCount l ≡ 3 + n
-  pub numbers : allNumbers (arguments l) ≡ true
+record OpensLine (l : List ℕ) : Type 0 where
+  short : length l ≤ 255
+  many : 3 ≤ fieldCount l
+  numbers : allNumbers (arguments l) ≡ true
 
-says-opens : (k : ℕ) (vs : List ℕ) {m d n : ℕ} → readingBy k vs ≡ Opens m d n → (k ≡ 0) × (n ≡ length vs - 2)
-says-opens zero vs e = (refl, cc)
-says-opens (suc k) vs e = let z : _≡_ {A = ℕ} 0 1 = cc in absurd (omega arith)
+opens-word : (k : ℕ) (vs : List ℕ) → isOpening (readingBy k vs) ≡ true → k ≡ 0
+opens-word zero vs e = refl
+opens-word (suc k) vs e = absurd (false≢true e)
 
-module _ (first : Bool) (l : List ℕ) where
-  pub line-numbered : Numbered (lineChecks first l)
-  line-numbered = ((omega arith, omega arith), ((omega arith, omega arith), ((omega arith, omega arith), ((omega arith, omega arith), ((omega arith, omega arith), tt)))))
+opens-count : (k : ℕ) (vs : List ℕ) {m d n : ℕ} → readingBy k vs ≡ Opens m d n → n ≡ length vs - 2
+opens-count zero vs e = cc
+opens-count (suc k) vs e = let z : _≡_ {A = ℕ} 0 1 = cc in absurd (omega arith)
+
+module _ (l : List ℕ) where
+  line-numbered : Numbered (lineChecks true l)
+  line-numbered = omega arith
 
   abbrev said : Reading
   said = readingBy (wordNumber (fieldOf 0 l)) (values (arguments l))
 
-  opens-by : {m d n : ℕ} → Claims (asked (lineChecks first l)) → said ≡ Opens m d n → OpensLine l n
-  opens-by c e =
-      let s = says-opens (wordNumber (fieldOf 0 l)) (values (arguments l)) e in
-      let many : 3 ≤ fieldCount l = subst (λ (k : ℕ). Claim (rightCount k (fieldCount l))) (s .0) (c .1 .1 .1 .0) in
-      record {
+  line-judged : Judged Refused (lineChecks true l) said
+  line-judged = judged Refused (lineChecks true l) said line-numbered
+
+  said-passed : Claims (asked (lineChecks true l)) → reading true l ≡ said
+  unfolding reading
+  said-passed c = judge-passed Refused (lineChecks true l) said c
+
+  opens-line : isOpening (reading true l) ≡ true → OpensLine l
+  unfolding reading
+  opens-line e = by-judgement line-judged
+    where
+      by-judgement : Judged Refused (lineChecks true l) said → OpensLine l
+      by-judgement (passed c) = record {
         short = c .0;
-        word = first-is (fieldOf 0 l) _ _ (s .0);
-        count = omega (arith, s .1, many, values-length (fieldCount l - 1) 1 l);
+        many = subst (λ (k : ℕ). Claim (rightCount k (fieldCount l))) (opens-word (wordNumber (fieldOf 0 l)) (values (arguments l)) (ap isOpening (sym (said-passed c)) ∙ e)) (c .1 .1 .1 .0);
         numbers = c .1 .1 .1 .1 .0;
       }
+      by-judgement (failed k p q) = absurd (false≢true (sym (ap isOpening q) ∙ e))
 
-  pub opens-line : {m d n : ℕ} → reading first l ≡ Opens m d n → OpensLine l n
-  unfolding reading
-  opens-line {m} {d} {n} e = by-judgement (judged Refused (lineChecks first l) said line-numbered)
+  parents-told : {m d n : ℕ} → reading true l ≡ Opens m d n → length (parentsOf l) ≡ n
+  unfolding reading parentsOf
+  parents-told {m} {d} {n} e = by-judgement line-judged
     where
-      by-judgement : Judged Refused (lineChecks first l) said → OpensLine l n
-      by-judgement (passed c) = opens-by c (sym (judge-passed Refused (lineChecks first l) said c) ∙ e)
+      by-judgement : Judged Refused (lineChecks true l) said → length (drop 2 (values (arguments l))) ≡ n
+      by-judgement (passed c) = length-drop 2 (values (arguments l)) ∙ sym (opens-count (wordNumber (fieldOf 0 l)) (values (arguments l)) (sym (said-passed c) ∙ e))
       by-judgement (failed k p q) = let z : _≡_ {A = ℕ} 0 1 = cc in absurd (omega arith)
 
--- ---- its parents
-module _ (l : List ℕ) (n : ℕ) (o : OpensLine l n) where
-  fields : fieldCount l - 1 ≡ suc (suc n)
-  fields = omega (arith, o .count)
+-- ---- its parents stand behind the tab of field 2
+module _ (l : List ℕ) (opens : isOpening (reading true l) ≡ true) {start end : ℕ} (s : start ≡ fieldStart 2 l) (t : end ≡ endFrom tab start l) where
+  behind : drop 2 (arguments l) ≡ fieldsAt (end + 1) l
+  behind = drop-drop 2 1 (fieldsOf l) ∙ fields-after 2 l (opens-line l opens .many) s t
 
-  pub parents-few : n ≤ 123
-  parents-few = omega (arith, arguments-room l (o .numbers), ap length (o .word), o .short, o .count)
+  numbers : allNumbers (fieldsAt (end + 1) l) ≡ true
+  numbers = ap allNumbers (sym behind) ∙ numbers-drop 2 (arguments l) (opens-line l opens .numbers)
 
-  behind : parentsOf l ≡ values (fieldsFrom n 3 l)
-  unfolding parentsOf values fieldsFrom
-  behind = rw fields
+  parents-are : parentsOf l ≡ values (fieldsAt (end + 1) l)
+  unfolding parentsOf
+  parents-are = sym (values-drop 2 (arguments l)) ∙ ap values behind
 
-  pub parents-count : length (parentsOf l) ≡ n
-  parents-count = ap length behind ∙ values-length n 3 l
+  pub parents-found : {n : Numbers} → n ≡ numbersAt (end + 1) l → n .list ≡ padded room (parentsOf l)
+  unfolding numbersAt
+  parents-found e = ap (λ (x : Numbers). x .list) e ∙ numbers-list (fieldsAt (end + 1) l) numbers ∙ ap (padded room) (sym parents-are)
 
-  numbers : allNumbers (fieldsFrom n 3 l) ≡ true
-  unfolding fieldsFrom
-  numbers = numbers-tail (fieldOf 2 l) (fieldsFrom n 3 l) (numbers-tail (fieldOf 1 l) (fieldOf 2 l ∷ fieldsFrom n 3 l) (rw fields at (o .numbers)))
+  fits : length (parentsOf l) ≤ room
+  fits = omega (arith, ap length parents-are, values-length (fieldsAt (end + 1) l), numbers-fit (end + 1) l (opens-line l opens .short) numbers)
 
-  -- all 128 entries, and the first n of them
-  pub parents-padded : parentEntries l ≡ parentsOf l ++ replicate (128 - n) 0
-  parents-padded = rw behind (entries-padded 128 n 3 l (omega (arith, o .count)) (omega (arith, parents-few)) numbers)
+-- ---- a first line with its parents
+module _ (l : List ℕ) where
+  pub board-opens : isOpening (reading true l) ≡ true → {ps : List ℕ} → ps ≡ padded room (parentsOf l) → {r : Reading} → r ≡ reading true l → record { reading = r; parents = ps } ≡ boardLine l
+  unfolding boardLine
+  board-opens e p q = rw (p, q, e)
 
-  pub parents-taken : take n (parentEntries l) ≡ parentsOf l
-  parents-taken = rw parents-padded (take-at (parentsOf l) (replicate (128 - n) 0) n parents-count)
+  pub board-refused : isOpening (reading true l) ≡ false → {r : Reading} → r ≡ reading true l → record { reading = r; parents = replicate room 0 } ≡ boardLine l
+  unfolding boardLine
+  board-refused e q = rw (q, e, padded-none room)
+
+  pub board-reading : {b : BoardLine} → b ≡ boardLine l → b .reading ≡ reading true l
+  unfolding boardLine
+  board-reading e = ap (λ (x : BoardLine). x .reading) e
+
+  -- as many of them as are told
+  pub board-parents : {b : BoardLine} → b ≡ boardLine l → {m d n : ℕ} → b .reading ≡ Opens m d n → (n ≤ room) × (take n (b .parents) ≡ parentsOf l)
+  unfolding boardLine
+  board-parents {b} e {m} {d} {n} o =
+      let r : reading true l ≡ Opens m d n = sym (board-reading e) ∙ o in
+      let opens : isOpening (reading true l) ≡ true = ap isOpening r in
+      let kept : b .parents ≡ padded room (parentsOf l) = ap (λ (x : BoardLine). x .parents) e ∙ ap (λ (t : Bool). padded room (cond t (parentsOf l) [])) opens in
+      let told : length (parentsOf l) ≡ n = parents-told l r in
+      let few : length (parentsOf l) ≤ room = fits l opens refl refl in
+      (omega (arith, told, few), ap (λ (k : ℕ). take k (b .parents)) (sym told) ∙ ap (take (length (parentsOf l))) kept ∙ padded-take room (parentsOf l) few)

@@ -1,11 +1,11 @@
 -- A step that is written and read back is the step with its unused fields 0.
 use mathlib.Core.Path.{_≡_, refl, sym, ap, _∙_}
 use mathlib.Core.Bool.{true, false}
-use mathlib.Core.List.{List, [], _∷_, _++_, append-assoc}
+use mathlib.Core.List.{List, [], _∷_, _++_, map, append-assoc}
 use Prim.Native.Nat.{ℕ, zero, suc, _+_, _-_, _≤_}
 use native.Mathlib.Nat.{not-suc-le-zero}
 use native.Mathlib.Omega.{arith}
-use lib.ListN.{length, take, drop, getD, length-append}
+use lib.ListN.{length, take, drop, getD, length-append, length-map}
 use lib.Seq.{sets-eq, take-at, drop-at, length-take-le}
 use Rattle.rules.specs.Facts.{Claim, Claims, sameList}
 use Rattle.rules.specs.Actions.{kinds, actionOf, isKnown}
@@ -17,17 +17,19 @@ use Rattle.rules.proofs.FactLaws.{asked, judge-passed}
 use Rattle.placing.specs.Placing.{wrote, written}
 use Rattle.placing.specs.declared.Wrote.the-variants.{Count}
 use Rattle.placing.proofs.WriteLaws.{wrote-count, written-fits}
+use Rattle.decimal.specs.Spelling.{spelled}
 use Rattle.fields.specs.Fields.{tab, countOf, fieldOf, fieldCount}
+use Rattle.numbers.specs.Numbers.{fieldsOf, allNumbers, values}
+use Rattle.numbers.proofs.PlaceLaws.{fields-split, fields-count}
+use Rattle.numbers.proofs.JoinLaws.{Small, fields-tabbed, numbers-tabbed, values-tabbed}
 use Rattle.script.specs.Words.{words, placeOf, wordNumber}
-use Rattle.script.specs.Lines.{arguments, allNumbers, values, rightCount, lineChecks, readingBy, reading}
+use Rattle.script.specs.Lines.{arguments, rightCount, lineChecks, readingBy, reading}
 use Rattle.script.specs.Writing.{lettersOf, stepLine, stepText, stepWrote, stepWritten}
 use Rattle.script.specs.RoundTrips.{RoundTrip}
 use Rattle.script.specs.declared.Reading.the-variants.{Asks, Refused}
 use Rattle.script.proofs.KindLaws.{by-kind, known-range}
 use Rattle.script.proofs.LineLaws.{asks}
-use Rattle.script.proofs.TabLaws.{Small}
 use Rattle.script.proofs.LetterLaws.{letters-small, line-short}
-use Rattle.script.proofs.JoinLaws.{first-tabbed, count-tabbed, arguments-tabbed, numbers-tabbed, values-tabbed}
 
 -- ---- the rows: each word has its number and no tab, each kind its letters
 abbrev wordOf : ℕ → List ℕ
@@ -56,21 +58,22 @@ module _ (r : StepRecord) (l : 1 ≤ r .kind) (u : r .kind ≤ kinds) (h : Fits1
   none : countOf tab (wordOf (r .kind)) ≡ 0
   none = word-none (r .kind) l u
 
-  line-word : wordNumber (fieldOf 0 (stepLine r)) ≡ r .kind
+  line-fields : fieldsOf (stepLine r) ≡ wordOf (r .kind) ∷ map spelled ns
   unfolding stepLine
-  line-word = ap wordNumber (first-tabbed (wordOf (r .kind)) ns none) ∙ word-back (r .kind) l u
+  line-fields = fields-tabbed (wordOf (r .kind)) ns none small
+
+  line-word : wordNumber (fieldOf 0 (stepLine r)) ≡ r .kind
+  unfolding fieldOf
+  line-word = ap wordNumber (ap (λ (fs : List (List ℕ)). getD fs 0 []) (sym (fields-split (stepLine r)) ∙ line-fields)) ∙ word-back (r .kind) l u
 
   line-count : fieldCount (stepLine r) ≡ suc (length (letters (actionOf (r .kind))))
-  unfolding stepLine
-  line-count = count-tabbed (wordOf (r .kind)) ns none small ∙ ap suc (values-length r (letters (actionOf (r .kind))))
+  line-count = sym (fields-count (stepLine r)) ∙ ap length line-fields ∙ ap suc (length-map ns spelled ∙ values-length r (letters (actionOf (r .kind))))
 
   line-numbers : allNumbers (arguments (stepLine r)) ≡ true
-  unfolding stepLine
-  line-numbers = ap allNumbers (arguments-tabbed (wordOf (r .kind)) ns none small) ∙ numbers-tabbed ns small
+  line-numbers = ap (λ (fs : List (List ℕ)). allNumbers (drop 1 fs)) line-fields ∙ numbers-tabbed ns small
 
   line-values : values (arguments (stepLine r)) ≡ ns
-  unfolding stepLine
-  line-values = ap values (arguments-tabbed (wordOf (r .kind)) ns none small) ∙ values-tabbed ns small
+  line-values = ap (λ (fs : List (List ℕ)). values (drop 1 fs)) line-fields ∙ values-tabbed ns small
 
   line-passes : Claims (asked (lineChecks false (stepLine r)))
   line-passes =

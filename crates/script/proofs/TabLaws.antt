@@ -1,18 +1,17 @@
--- Numbers behind tabs: how long their text is, and how it is written one by one.
+-- Numbers behind tabs, written one by one.
 use mathlib.Core.Path.{_≡_}
 use mathlib.Core.List.{List, [], _∷_, _++_}
-use Prim.Native.Nat.{ℕ, suc, _+_, _*_, _≤_, _<_}
+use Prim.Native.Nat.{ℕ, suc, _+_, _≤_, _<_}
 use native.Mathlib.Numerals.{add-one}
 use native.Mathlib.Omega.{arith}
 use lib.ListN.{length, drop, getD, length-append, drop-of-length-le}
 use lib.Seq.{sets, drop-cons}
 use Rattle.decimal.specs.Spelling.{spelled, digitCount}
-use Rattle.decimal.proofs.CountLaws.{count-word}
 use Rattle.decimal.proofs.SpellLaws.{spelled-length}
 use Rattle.fields.specs.Fields.{tab}
 use Rattle.placing.specs.Placing.{written}
 use Rattle.placing.proofs.WriteLaws.{written-then}
-use Rattle.script.specs.Writing.{tabbed}
+use Rattle.numbers.specs.Numbers.{tabbed}
 
 -- ---- one turn of the writer over the numbers, at place `to` of `out`: number i is n, of k digits
 module _ (ns : List ℕ) (i : ℕ) (inside : i < length ns) {n k : ℕ} (is : n ≡ getD ns i 0) (count : k ≡ digitCount n) where
@@ -36,13 +35,3 @@ module _ (ns : List ℕ) (i : ℕ) (inside : i < length ns) {n k : ℕ} (is : n 
 pub tabbed-end : (ns : List ℕ) (i : ℕ) → length ns ≤ i → tabbed (drop i ns) ≡ []
 unfolding tabbed
 tabbed-end ns i h = rw (drop-of-length-le ns {i = i} h)
-
--- ---- numbers of 16 bits take at most six bytes each
-abbrev pub Small : List ℕ → Type 0
-Small [] = Unit {0}
-Small (n ∷ ns) = (n ≤ 65535) × Small ns
-
-pub tabbed-length : (ns : List ℕ) → Small ns → length (tabbed ns) ≤ 6 * length ns
-unfolding tabbed
-tabbed-length [] h = omega arith
-tabbed-length (n ∷ ns) h = omega (arith, length-append (spelled n) (tabbed ns), spelled-length n, count-word n (h .0), tabbed-length ns (h .1))

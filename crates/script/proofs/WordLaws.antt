@@ -1,22 +1,12 @@
 -- The words of a script: compared byte by byte, and numbered by the first that a word is.
 use mathlib.Core.Path.{_≡_, refl, sym, _∙_}
-use mathlib.Core.Bool.{Bool, true, false, cond}
+use mathlib.Core.Bool.{Bool, true, false}
 use mathlib.Core.List.{List, _∷_}
 use Prim.Native.Nat.{ℕ, suc, _+_}
 use native.Mathlib.Nat.{add-zero, add-suc, suc-add}
-use native.Mathlib.Omega.{arith}
 use Rattle.rules.specs.Facts.{sameList}
 use Rattle.rules.proofs.FactLaws.{true-not-false, same-itself, same-is}
 use Rattle.script.specs.Words.{placeOf}
-
--- the word at place 0 is the first
-pub first-is : (w v : List ℕ) (vs : List (List ℕ)) → placeOf w (v ∷ vs) ≡ 0 → w ≡ v
-unfolding placeOf
-first-is w v vs e = same-is w v (by-test (sameList w v) e)
-  where
-    by-test : (t : Bool) → cond t 0 (suc (placeOf w vs)) ≡ 0 → t ≡ true
-    by-test true q = refl
-    by-test false q = absurd (omega (arith, q))
 
 -- ---- a test of the words from place j on: the word is the first of them, or its number is that among the others
 module _ (w v : List ℕ) (vs : List (List ℕ)) {t : Bool} (says : (t ≡ true → w ≡ v) × (w ≡ v → t ≡ true)) (j : ℕ) {n : ℕ} (left : n ≡ j + placeOf w (v ∷ vs)) where

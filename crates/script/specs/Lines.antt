@@ -1,6 +1,6 @@
 -- Reading a line of a script, handed over without its byte 10.
-use mathlib.Core.Bool.{Bool, true, false, _&&_}
-use mathlib.Core.List.{List, [], _∷_}
+use mathlib.Core.Bool.{Bool, true, false, cond}
+use mathlib.Core.List.{List, [], _∷_, map}
 use Prim.Native.Nat.{ℕ, zero, suc, _-_}
 use lib.ListN.{length, getD, drop}
 use Rattle.rules.specs.Facts.{Fact, Check, check, atMost, equal, holds, judge}
@@ -8,28 +8,16 @@ use Rattle.rules.specs.Actions.{actionOf, kinds}
 use Rattle.rules.specs.Letters.{letters, recordFrom}
 use Rattle.rules.specs.declared.Action.{Action}
 use Rattle.rules.specs.declared.StepRecord.{StepRecord}
-use Rattle.decimal.specs.Reading.{isNumber, valueFrom}
 use Rattle.fields.specs.Fields.{fieldOf, fieldCount}
+use Rattle.numbers.specs.Numbers.{fieldsOf, values, FieldCheck, fieldChecks, padded, room}
 use Rattle.script.specs.Words.{wordNumber}
+use Rattle.script.specs.declared.BoardLine.{BoardLine}
 use Rattle.script.specs.declared.Reading.{Reading}
 use Rattle.script.specs.declared.Reading.the-variants.{Opens, Asks, Refused}
 
--- ---- the fields behind the word
--- n fields from field i on
-unfoldable pub fieldsFrom : ℕ → ℕ → List ℕ → List (List ℕ)
-fieldsFrom zero i l = []
-fieldsFrom (suc n) i l = fieldOf i l ∷ fieldsFrom n (suc i) l
-
+-- the fields behind the word
 abbrev pub arguments : List ℕ → List (List ℕ)
-arguments l = fieldsFrom (fieldCount l - 1) 1 l
-
-unfoldable pub allNumbers : List (List ℕ) → Bool
-allNumbers [] = true
-allNumbers (f ∷ fs) = isNumber f && allNumbers fs
-
-unfoldable pub values : List (List ℕ) → List ℕ
-values [] = []
-values (f ∷ fs) = valueFrom 0 f ∷ values fs
+arguments l = drop 1 (fieldsOf l)
 
 -- ---- what a line says
 -- board has M, d, then 0 or more parents; a step has its letters
@@ -42,15 +30,18 @@ abbrev pub rightPlace : Bool → ℕ → Fact
 rightPlace true w = equal w 0
 rightPlace false w = atMost 1 w
 
--- 21 line over 255 bytes, 22 unknown word, 25, 23 wrong count of fields, 24 a field that is no number: in this order
+-- what is asked of the number fields
+abbrev pub checkOf : FieldCheck → Check
+checkOf c = check (holds (c .passes)) (c .number)
+
+-- 21 line over 255 bytes, 22 unknown word, 25, 23 wrong count of fields, then 24 of the number fields: in this order
 abbrev pub lineChecks : Bool → List ℕ → List Check
 lineChecks first l =
     check (atMost (length l) 255) 21
     ∷ check (atMost (wordNumber (fieldOf 0 l)) kinds) 22
     ∷ check (rightPlace first (wordNumber (fieldOf 0 l))) 25
     ∷ check (rightCount (wordNumber (fieldOf 0 l)) (fieldCount l)) 23
-    ∷ check (holds (allNumbers (arguments l))) 24
-    ∷ []
+    ∷ map checkOf (fieldChecks (arguments l))
 
 -- a step record of a kind from its letters' values, with 0 in the fields that the kind has no letter for
 abbrev pub recordBy : ℕ → List ℕ → Action → StepRecord
@@ -67,6 +58,15 @@ reading first l = judge Refused (lineChecks first l) (readingBy (wordNumber (fie
 -- the parents of a board line
 unfoldable pub parentsOf : List ℕ → List ℕ
 parentsOf l = drop 2 (values (arguments l))
+
+abbrev pub isOpening : Reading → Bool
+isOpening (Opens m d n) = true
+isOpening (Asks r) = false
+isOpening (Refused k) = false
+
+-- a first line with its parents, and zeros behind them; it has parents only where it opens a board
+unfoldable pub boardLine : List ℕ → BoardLine
+boardLine l = record { reading = reading true l; parents = padded room (cond (isOpening (reading true l)) (parentsOf l) []) }
 
 -- the number that refuses a line where a step is due: 25 for a board line, 0 for a step
 abbrev pub refusalBy : Reading → ℕ

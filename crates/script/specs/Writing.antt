@@ -10,18 +10,12 @@ use Rattle.rules.specs.declared.StepRecord.{StepRecord}
 use Rattle.placing.specs.Placing.{wrote, written}
 use Rattle.placing.specs.declared.Wrote.{Wrote}
 use Rattle.placing.specs.declared.Wrote.the-variants.{Refused}
-use Rattle.decimal.specs.Spelling.{spelled}
-use Rattle.fields.specs.Fields.{tab}
+use Rattle.numbers.specs.Numbers.{tabbed}
 use Rattle.script.specs.Words.{words}
 
 -- the values of a step's letters, in the order in which they are written
 abbrev pub lettersOf : StepRecord → Action → List ℕ
 lettersOf r a = valuesOf r (letters a)
-
--- each number behind a tab
-unfoldable pub tabbed : List ℕ → List ℕ
-tabbed [] = []
-tabbed (n ∷ ns) = tab ∷ spelled n ++ tabbed ns
 
 -- the line without its byte 10, and with it
 unfoldable pub stepLine : StepRecord → List ℕ

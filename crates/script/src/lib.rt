@@ -1,11 +1,11 @@
 // The lines of a script: what a line says, the parents of a board line, and a step written as a line.
 mod lines;
-mod numbers;
 mod words;
 mod writing;
 
+pub use lines::read_board;
 pub use lines::read_line;
-pub use numbers::read_parents;
+use numbers::ROOM;
 use rules::StepRecord;
 pub use writing::write_step;
 ghost use mathlib.Core.Path.{_≡_};
@@ -29,4 +29,10 @@ impl Reading {
             Reading::Refused(k) => k,
         }
     }
+}
+
+// A first line, with the parents of a line that opens a board and zeros behind them; of any other line all are zeros.
+pub struct BoardLine {
+    pub reading: Reading,
+    pub parents: [u16; ROOM],
 }

@@ -1,19 +1,20 @@
 // Reading a line of a script, handed over without its byte 10.
+use crate::BoardLine;
 use crate::Reading;
-use crate::numbers::are_numbers;
-use crate::numbers::value_at;
 use crate::words::word_number;
+use fields::TAB;
+use numbers::ROOM;
+use numbers::read_numbers;
 use rules::KINDS;
 use rules::StepRecord;
 ghost use mathlib.Core.Path.{_≡_};
 ghost use mathlib.Core.Bool.{true};
 ghost use mathlib.Core.List.{[], _∷_};
 ghost use Prim.Native.Nat.{_≤_};
-ghost use lib.ListN.{length};
 ghost use Rattle.rules.specs.Facts.{test};
 ghost use Rattle.rules.specs.Actions.{kinds, actionOf};
-ghost use Rattle.fields.specs.Fields.{fieldCount};
-ghost use Rattle.script.specs.Lines.{arguments, allNumbers, values, rightPlace, rightCount, recordBy, readingBy, reading};
+ghost use Rattle.numbers.specs.Numbers.{padded, room};
+ghost use Rattle.script.specs.Lines.{rightPlace, rightCount, recordBy, reading, isOpening, parentsOf, boardLine};
 
 // A board line stands first, and only there.
 fn fits_place(word: u16, first: bool) -> bool
@@ -71,42 +72,69 @@ fn record_of(kind: u16, a: u16, b: u16, c: u16) -> StepRecord
     }
 }
 
-// What a line that nothing refuses says.
-fn said(line: &[u8], word: u16, count: usize) -> Reading
-    requires { ⌜ (word ≤ kinds) × (count ≡ fieldCount (now line)) × (length (now line) ≤ 255) × (test (rightCount word count) ≡ true) × (allNumbers (arguments (now line)) ≡ true) ⌝ }
-    ensures { λ r. ⌜ r ≡ readingBy word (values (arguments (now (line .entry)))) ⌝ }
-{
-    let a = value_at(line, 1);
-    let b = value_at(line, 2);
-    if word == 0 {
-        return Reading::Opens(a, b, (count - 3) as u16);
-    }
-    let c = value_at(line, 3);
-    Reading::Asks(record_of(word, a, b, c))
-}
-
-// Length is tested first, so that everything behind it handles at most 255 bytes.
+// Length is tested first, so that everything behind it handles at most 255 bytes. The line is read once: its word, then the number
+// fields behind it.
 pub fn read_line(line: &[u8], first: bool) -> Reading
     ensures { λ r. ⌜ r ≡ reading first (now (line .entry)) ⌝ }
 {
     if line.len() > 255 {
         return Reading::Refused(21);
     }
-    let word = word_number(fields::field(line, 0));
+    let name = fields::field(line, 0);
+    let word = word_number(name);
     if word > KINDS {
         return Reading::Refused(22);
     }
-    let count = fields::field_count(line);
+    let n = read_numbers(line, name.len() + 1);
     let placed = fits_place(word, first);
-    let counted = fits_count(word, count);
+    let counted = fits_count(word, n.count + 1);
     if !placed {
         return Reading::Refused(25);
     }
     if !counted {
         return Reading::Refused(23);
     }
-    if !are_numbers(line, count) {
-        return Reading::Refused(24);
+    if n.refusal > 0 {
+        return Reading::Refused(n.refusal);
     }
-    said(line, word, count)
+    let list = n.list;
+    if word == 0 {
+        return Reading::Opens(list[0], list[1], (n.count - 2) as u16);
+    }
+    Reading::Asks(record_of(word, list[0], list[1], list[2]))
+}
+
+fn opens(r: Reading) -> bool
+    ensures { λ t. ⌜ t ≡ isOpening r ⌝ }
+{
+    match r {
+        Reading::Opens(_, _, _) => true,
+        Reading::Asks(_) => false,
+        Reading::Refused(_) => false,
+    }
+}
+
+// The numbers behind M and d.
+fn parents_of(line: &[u8]) -> [u16; ROOM]
+    requires { ⌜ isOpening (reading true (now line)) ≡ true ⌝ }
+    ensures { λ r. ⌜ r ≡ padded room (parentsOf (now (line .entry))) ⌝ }
+{
+    let start = fields::field_start(line, 2);
+    let end = fields::end_from(line, start, TAB);
+    let n = read_numbers(line, end + 1);
+    let list = n.list;
+    list
+}
+
+// A first line with its parents, which it has only where it opens a board.
+pub fn read_board(line: &[u8]) -> BoardLine
+    ensures { λ r. ⌜ r ≡ boardLine (now (line .entry)) ⌝ }
+{
+    let reading = read_line(line, true);
+    if opens(reading) {
+        let parents = parents_of(line);
+        return BoardLine { reading, parents };
+    }
+    let parents = [0u16; ROOM];
+    BoardLine { reading, parents }
 }

@@ -9,7 +9,8 @@ ghost use lib.ListN.{length, take};
 ghost use lib.Seq.{sets};
 ghost use Rattle.rules.specs.Actions.{kinds, actionOf, isKnown};
 ghost use Rattle.placing.specs.Placing.{Writes};
-ghost use Rattle.script.specs.Writing.{lettersOf, tabbed, stepText, stepWrote, stepWritten};
+ghost use Rattle.numbers.specs.Numbers.{tabbed};
+ghost use Rattle.script.specs.Writing.{lettersOf, stepText, stepWrote, stepWritten};
 
 // The values of a step's letters in their order: the first `count` of the list.
 struct Letters {

@@ -5,10 +5,10 @@ use Rattle.case_lines.proofs.tell.parents.Statement.{statement}
 use Rattle.case_lines.proofs.tell.parents.Tie as tie
 
 abbrev Inv-loop : tie.InvT-loop
-Inv-loop line count list n i₀ i = i ≤ 128
+Inv-loop list count n i₀ i = i ≤ 128
 
 abbrev μ-loop : tie.MeasureT-loop
-μ-loop line count list n i₀ i = 128 - i
+μ-loop list count n i₀ i = 128 - i
 
 pub parents-spec : {M : Type 1} → statement M
 parents-spec =
@@ -16,7 +16,6 @@ parents-spec =
     (tie.spec
     Inv-loop
     μ-loop
-    (λ c κs. search needs)
     (λ c. search needs)
     (λ c. search needs)
     (λ c. search needs)

@@ -1,13 +1,12 @@
 -- `gathering::gather` meets its contract: at each turn, the lines gathered and those that are left from here are the lines of the whole.
-use mathlib.Core.Path.{refl, sym, ap, _∙_}
+use mathlib.Core.Path.{refl, ap, _∙_}
 use mathlib.Core.Bool.{false}
-use mathlib.Core.List.{List}
-use Prim.Native.Nat.{ℕ, _-_}
+use Prim.Native.Nat.{_-_}
 use native.Mathlib.Omega.{arith}
 use borrow.Author.Needs.{needs}
-use Rattle.fields.proofs.PartLaws.{upTo-from, end-after, end-at-most}
+use Rattle.numbers.proofs.LineLaws.{line-inside, line-starts, line-part, line-next}
 use Rattle.script.specs.Lines.{reading}
-use Rattle.listing.proofs.GatherLaws.{behind-end, Turn, turn-begins, turn-goes, turn-past, turn-full}
+use Rattle.listing.proofs.GatherLaws.{Turn, turn-begins, turn-goes, turn-past, turn-full}
 use Rattle.listing.proofs.gathering.gather.Statement.{statement}
 use Rattle.listing.proofs.gathering.gather.Tie as tie
 
@@ -26,17 +25,17 @@ loop-holds c = turn-begins _ _ _ _ _ (c .before .before .pre) refl refl
 returns : tie.Need-returns Inv-loop μ-loop
 returns c = turn-past (c .before .before .loop .inv) (omega arith)
 
-end-from-requires : tie.Need-end-from-requires Inv-loop μ-loop
-end-from-requires c κs = search needs
+line-at-requires : tie.Need-line-at-requires Inv-loop μ-loop
+line-at-requires c κs = search needs
 
 sub-read-line : tie.Need-sub-read-line Inv-loop μ-loop
-sub-read-line c = omega (arith, end-after 10 (c .before .before .before .loop .at) (c .before .before .before .before .before .before .args .script .now) (omega arith))
+sub-read-line c = line-starts _ _ (c .line-at .ensures) (omega arith)
 
 part-read-line-start : tie.Need-part-read-line-start Inv-loop μ-loop
-part-read-line-start c = omega (arith, end-after 10 (c .before .before .before .loop .at) (c .before .before .before .before .before .before .args .script .now) (omega arith))
+part-read-line-start c = line-starts _ _ (c .line-at .ensures) (omega arith)
 
 part-read-line-end : tie.Need-part-read-line-end Inv-loop μ-loop
-part-read-line-end c = omega (arith, end-at-most 10 (c .before .before .before .loop .at) (c .before .before .before .before .before .before .args .script .now))
+part-read-line-end c = line-inside _ _ (c .line-at .ensures)
 
 read-line-requires : tie.Need-read-line-requires Inv-loop μ-loop
 read-line-requires c κs = search needs
@@ -59,9 +58,6 @@ mul-refusals c = search needs
 array-write-refusals : tie.Need-array-write-refusals Inv-loop μ-loop
 array-write-refusals c = search needs
 
-behind-requires : tie.Need-behind-requires Inv-loop μ-loop
-behind-requires c κs = search needs
-
 add-i : tie.Need-add-i Inv-loop μ-loop
 add-i c = search needs
 
@@ -70,12 +66,8 @@ loop-less c = omega arith
 
 loop-again : tie.Need-loop-again Inv-loop μ-loop
 loop-again c =
-    let found = c .before .before .before .before .before in
-    let at-loop = found .before .before .before in
-    let script = at-loop .before .before .before .args .script .now in
-    let at = at-loop .loop .at in
-    turn-goes (at-loop .loop .inv) (omega arith) (omega arith) (c .before .before .before .read-line .ensures ∙ ap (λ (l : List ℕ). reading false l) (rw (found .end-from .ensures) (sym (upTo-from 10 at script (omega arith))))) (c .before .before .record-of .ensures) (c .before .refusal .ensures)
-    (c .behind .ensures ∙ behind-end at script (omega arith) (found .end-from .ensures))
+    let found = c .before .before .before .before in
+    turn-goes (found .before .before .before .loop .inv) (omega arith) (omega arith) (c .before .before .read-line .ensures ∙ ap (reading false) (line-part _ _ (found .line-at .ensures) (omega arith))) (c .before .record-of .ensures) (c .refusal .ensures) (line-next _ _ (found .line-at .ensures))
 
 returns-2 : tie.Need-returns-2 Inv-loop μ-loop
 returns-2 c = turn-full (c .before .loop .inv) (omega arith)
@@ -89,7 +81,7 @@ gather-spec =
     no-step-requires
     loop-holds
     returns
-    end-from-requires
+    line-at-requires
     sub-read-line
     part-read-line-start
     part-read-line-end
@@ -100,7 +92,6 @@ gather-spec =
     refusal-requires
     mul-refusals
     array-write-refusals
-    behind-requires
     add-i
     loop-less
     loop-again

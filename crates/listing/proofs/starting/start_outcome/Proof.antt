@@ -4,7 +4,7 @@ use mathlib.Core.Bool.{true}
 use mathlib.Core.List.{List}
 use Prim.Native.Nat.{ℕ}
 use native.Mathlib.Omega.{arith}
-use Rattle.fields.proofs.PartLaws.{upTo-from, end-at-most}
+use Rattle.numbers.proofs.LineLaws.{line-inside, line-part}
 use Rattle.script.specs.Lines.{reading, parentsOf}
 use Rattle.listing.specs.Scripts.{firstOutcome}
 use Rattle.listing.proofs.StartLaws.{start-long, start-empty, start-first}
@@ -24,8 +24,8 @@ refused-requires-2 c κs = search needs
 returns-2 : tie.Need-returns-2
 returns-2 c = c .refused2 .ensures ∙ sym (start-empty (c .before .before .before .before .args .script .now) (c .before .before .if1 .left) (c .before .if2 .taken))
 
-end-from-requires : tie.Need-end-from-requires
-end-from-requires c κs = search needs
+line-at-requires : tie.Need-line-at-requires
+line-at-requires c κs = search needs
 
 sub-first-outcome : tie.Need-sub-first-outcome
 sub-first-outcome c = search needs
@@ -34,7 +34,7 @@ part-first-outcome-start : tie.Need-part-first-outcome-start
 part-first-outcome-start c = search needs
 
 part-first-outcome-end : tie.Need-part-first-outcome-end
-part-first-outcome-end c = omega (arith, end-at-most 10 0 (c .before .before .before .before .args .script .now))
+part-first-outcome-end c = line-inside _ _ (c .line-at .ensures)
 
 first-outcome-requires : tie.Need-first-outcome-requires
 first-outcome-requires c κs = search needs
@@ -44,7 +44,7 @@ returns-3 c =
     let found = c .before .before in
     let script = found .before .before .before .before .args .script .now in
     c .first-outcome .ensures
-    ∙ ap (λ (l : List ℕ). firstOutcome (parentsOf l) (reading true l)) (rw (found .end-from .ensures) (sym (upTo-from 10 0 script (omega arith))))
+    ∙ ap (λ (l : List ℕ). firstOutcome (parentsOf l) (reading true l)) (line-part 0 script (found .line-at .ensures) (omega arith))
     ∙ sym (start-first script (found .before .before .if1 .left) (found .before .if2 .left))
 
 pub start-outcome-spec : {M : Type 1} → statement M
@@ -55,7 +55,7 @@ start-outcome-spec =
     returns
     refused-requires-2
     returns-2
-    end-from-requires
+    line-at-requires
     sub-first-outcome
     part-first-outcome-start
     part-first-outcome-end

@@ -5,7 +5,7 @@ use native.Mathlib.Omega.{arith}
 use borrow.Author.Needs.{needs}
 use lib.ListN.{length, drop, getD}
 use lib.Seq.{sets}
-use Rattle.script.specs.Writing.{tabbed}
+use Rattle.numbers.specs.Numbers.{tabbed}
 use Rattle.script.proofs.TabLaws.{tabbed-place, tabbed-sets, tabbed-end}
 use Rattle.script.proofs.writing.put_tabbed.Statement.{statement}
 use Rattle.script.proofs.writing.put_tabbed.Tie as tie
