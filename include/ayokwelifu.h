@@ -49,7 +49,7 @@ enum ayokwelifu_refusal {
 #define AYOKWELIFU_LONGEST_LISTING 2424796
 
 /* No step's line is longer, in bytes, its byte 10 included. */
-#define AYOKWELIFU_LONGEST_STEP 26
+#define AYOKWELIFU_LONGEST_STEP 23
 
 /*
  * The length of the script's listing in bytes goes to *count. Returns 0: every script has a listing, also one that is

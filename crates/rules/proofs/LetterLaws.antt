@@ -2,8 +2,7 @@
 use mathlib.Core.Path.{_≡_, refl, sym, ap, _∙_}
 use mathlib.Core.Bool.{cond}
 use mathlib.Core.List.{List, [], _∷_}
-use Prim.Native.Nat.{ℕ, suc, _≤_, _<_, _^_}
-use native.Mathlib.Omega.{arith}
+use Prim.Native.Nat.{ℕ, suc, _<_, _^_}
 use lib.ListN.{length, getD}
 use Rattle.rules.specs.Sound.{sound}
 use Rattle.rules.specs.Actions.{actionOf}
@@ -55,16 +54,6 @@ step-used b r = ap (λ (o : Outcome). cond (sound b) o (record { answer = 30; bo
 pub values-length : (r : StepRecord) (ls : List Letter) → length (valuesOf r ls) ≡ length ls
 values-length r [] = refl
 values-length r (l ∷ ls) = ap suc (values-length r ls)
-
-pub letters-three : (a : Action) → length (letters a) ≤ 3
-letters-three Unknown = omega arith
-letters-three Start = omega arith
-letters-three Send = omega arith
-letters-three Request = omega arith
-letters-three Deliver = omega arith
-letters-three Rest = omega arith
-letters-three Tick = omega arith
-letters-three Release = omega arith
 
 pub read-fits : (r : StepRecord) → Fits16 r → (f : Field) → read r f < 2 ^ 16
 read-fits r h unitField = h .unit

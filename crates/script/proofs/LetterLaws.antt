@@ -2,7 +2,7 @@
 use mathlib.Core.Path.{_≡_, refl, sym, _∙_}
 use mathlib.Core.Bool.{true, false}
 use mathlib.Core.List.{List, [], _∷_}
-use Prim.Native.Nat.{ℕ, _+_, _-_, _≤_, _<_}
+use Prim.Native.Nat.{ℕ, _+_, _*_, _-_, _≤_, _<_}
 use native.Mathlib.Omega.{arith}
 use lib.ListN.{length, take, getD, set, length-append}
 use lib.Seq.{sets, sets-eq, take-at}
@@ -15,14 +15,14 @@ use Rattle.rules.specs.Letters.{Letter, letters, valuesOf}
 use Rattle.rules.specs.Guarantee.{Fits16}
 use Rattle.rules.specs.declared.Action.{Action}
 use Rattle.rules.specs.declared.StepRecord.{StepRecord}
-use Rattle.rules.proofs.LetterLaws.{values-length, letters-three, read-fits}
+use Rattle.rules.proofs.LetterLaws.{values-length, read-fits}
 use Rattle.numbers.specs.Numbers.{tabbed}
 use Rattle.numbers.proofs.JoinLaws.{Small, tabbed-length}
 use Rattle.script.specs.Words.{words}
-use Rattle.script.specs.Writing.{lettersOf, stepLine, stepText, stepWrote, stepWritten}
+use Rattle.script.specs.Writing.{lettersOf, stepLine, stepText, longestStep, stepWrote, stepWritten}
 use Rattle.script.proofs.KindLaws.{by-kind}
 
--- a step has at most three letters, and each is small
+-- each letter of a step is small
 pub letters-small : (r : StepRecord) (a : Action) → Fits16 r → Small (lettersOf r a)
 letters-small r a h = each-small (letters a)
   where
@@ -30,17 +30,24 @@ letters-small r a h = each-small (letters a)
     each-small [] = tt
     each-small (l ∷ ls) = (omega (arith, read-fits r h (l .field)), each-small ls)
 
-letters-few : (r : StepRecord) (a : Action) → length (lettersOf r a) ≤ 3
-letters-few r a = omega (arith, values-length r (letters a), letters-three a)
+-- a word, and six bytes for each letter: a tab and at most five digits. The longest is a send's
+word-short : (k : ℕ) → 1 ≤ k → k ≤ kinds → length (getD words k []) + 6 * length (letters (actionOf k)) ≤ 22
+word-short = by-kind (λ k. length (getD words k []) + 6 * length (letters (actionOf k)) ≤ 22) (omega arith) (omega arith) (omega arith) (omega arith) (omega arith) (omega arith) (omega arith)
 
-word-short : (k : ℕ) → 1 ≤ k → k ≤ kinds → length (getD words k []) ≤ 7
-word-short = by-kind (λ k. length (getD words k []) ≤ 7) (omega arith) (omega arith) (omega arith) (omega arith) (omega arith) (omega arith) (omega arith)
-
-pub line-short : (r : StepRecord) → 1 ≤ r .kind → r .kind ≤ kinds → Fits16 r → length (stepLine r) ≤ 25
+pub line-short : (r : StepRecord) → 1 ≤ r .kind → r .kind ≤ kinds → Fits16 r → length (stepLine r) < longestStep
 unfolding stepLine
 line-short r l u h =
     let ns : List ℕ = lettersOf r (actionOf (r .kind)) in
-    omega (arith, length-append (getD words (r .kind) []) (tabbed ns), word-short (r .kind) l u, tabbed-length ns (letters-small r (actionOf (r .kind)) h), letters-few r (actionOf (r .kind)))
+    omega (
+      arith,
+      length-append (getD words (r .kind) []) (tabbed ns),
+      word-short (r .kind) l u,
+      tabbed-length ns (letters-small r (actionOf (r .kind)) h),
+      values-length r (letters (actionOf (r .kind))),
+    )
+
+pub text-short : (r : StepRecord) → 1 ≤ r .kind → r .kind ≤ kinds → Fits16 r → length (stepText r) ≤ longestStep
+text-short r l u h = omega (arith, length-append (stepLine r) (10 ∷ []), line-short r l u h)
 
 -- ---- a step's line put together in a blank buffer: its word, its letters behind it, and byte 10
 module _ (r : StepRecord) (blank : List ℕ) {from : ℕ} {first ns : List ℕ} (n : from ≡ length (getD words (r .kind) [])) (f : first ≡ sets blank 0 (getD words (r .kind) [])) (ls : ns ≡ lettersOf r (actionOf (r .kind))) where

@@ -24,6 +24,10 @@ stepLine r = getD words (r .kind) [] ++ tabbed (lettersOf r (actionOf (r .kind))
 abbrev pub stepText : StepRecord → List ℕ
 stepText r = stepLine r ++ 10 ∷ []
 
+-- no step's line is longer, its byte 10 included
+abbrev pub longestStep : ℕ
+longestStep = 23
+
 -- 16 kind outside 1 to 7, before 27
 unfoldable pub stepWrote : StepRecord → ℕ → List ℕ → Wrote
 stepWrote r at out = judge Refused (check (holds (isKnown (actionOf (r .kind)))) 16 ∷ []) (wrote (stepText r) at out)

@@ -1,16 +1,16 @@
 -- `step_line` meets its contract: the text is put together whole, and `put_bytes` writes it or refuses.
 use mathlib.Core.Path.{_≡_}
-use Prim.Native.Nat.{_-_, _≤_}
+use Prim.Native.Nat.{_-_, _<_}
 use Rattle.rules.specs.Actions.{actionOf}
 use lib.ListN.{length, take, length-set}
-use Rattle.script.specs.Writing.{lettersOf, stepLine}
+use Rattle.script.specs.Writing.{lettersOf, stepLine, longestStep}
 use borrow.Author.Needs.{needs}
 use native.Mathlib.Omega.{arith}
 use Rattle.script.proofs.LetterLaws.{line-short, line-length, line-ends, text-taken}
 use Rattle.script.proofs.writing.step_line.Statement.{statement}
 use Rattle.script.proofs.writing.step_line.Tie as tie
 
-short : (c : tie.Start) → length (stepLine (c .args .r)) ≤ 25
+short : (c : tie.Start) → length (stepLine (c .args .r)) < longestStep
 short c = line-short (c .args .r) (c .pre .0) (c .pre .1) (record { kind = omega (arith, c .good); unit = omega (arith, c .good); other = omega (arith, c .good); slot = omega (arith, c .good) })
 
 part-put-tabbed-end : tie.Need-part-put-tabbed-end
