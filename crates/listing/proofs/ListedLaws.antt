@@ -43,7 +43,7 @@ opened-by s e =
     (λ p. by-reading (reading true (upTo 10 s)) refl (start-first s short p))
   where
     by-reading : (x : Reading) → reading true (upTo 10 s) ≡ x → startOutcome s ≡ firstOutcome (parentsOf (upTo 10 s)) x → OpenedBy s
-    by-reading (Opens m d n) is q = record { m = m; d = d; parents = n; reads = is; opens = q }
+    by-reading (Opens m d n) is q = record { m = m; d = d; count = n; reads = is; opens = q }
     by-reading (Asks r) is q = absurd (omega (arith, e, ap (λ (o : Outcome). o .answer) q))
     by-reading (LineRefused k) is q = absurd (omega (arith, e, ap (λ (o : Outcome). o .answer) q, reading-number true (upTo 10 s) k is))
 

@@ -18,12 +18,12 @@ use Rattle.script.specs.declared.Reading.the-variants.{Opens, Asks, Refused}
 use Rattle.texts.specs.Texts.{heading, finishedWord, stateWord}
 use Rattle.listing.specs.Scripts.{startOutcome, Line, textOf, openedLines, listing}
 
--- the outcome of the first line is an opening, by the M, the d and the parents that stand in it
+-- the outcome of the first line is an opening, by the M, the d and the parents that stand in it; count is how many parents these are
 pub record OpenedBy (s : List ℕ) : Type 0 where
   pub m : ℕ
   pub d : ℕ
-  pub parents : ℕ
-  pub reads : reading true (upTo 10 s) ≡ Opens m d parents
+  pub count : ℕ
+  pub reads : reading true (upTo 10 s) ≡ Opens m d count
   pub opens : startOutcome s ≡ opening m d (parentsOf (upTo 10 s))
 
 -- the steps that lines behind the first ask for: a line that is no step asks for none
