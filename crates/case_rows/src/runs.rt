@@ -6,9 +6,8 @@ use crate::lists::whole_case;
 use crate::print::cell;
 use crate::print::newline;
 use crate::print::number;
-use crate::print::tab;
 use crate::print::text;
-use crate::print::verdict;
+use crate::tell::standing;
 use rules::Board;
 use rules::Ran;
 use rules::StepRecord;
@@ -46,9 +45,7 @@ fn run(title: &[u8], b: Board, list: [StepRecord; 16], count: usize, room: usize
     newline();
     tell_buffer(buffer);
     tell_ran(ran);
-    cell(c.debt);
-    tab();
-    verdict(board::finished(c));
+    standing(c);
     newline();
     c
 }

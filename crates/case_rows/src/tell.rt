@@ -15,13 +15,18 @@ use rules::Board;
 use rules::Outcome;
 use rules::StepRecord;
 
-// Answer, debt and verdict, then what is not as on the board a.
-fn outcome(a: Board, out: Outcome, same: &[u8]) -> Board {
-    let b = out.board;
-    cell(out.answer as u64);
+// Debt and verdict.
+pub(crate) fn standing(b: Board) {
     cell(b.debt);
     tab();
     print::verdict(board::finished(b));
+}
+
+// The answer and how the board stands, then what is not as on the board a.
+fn outcome(a: Board, out: Outcome, same: &[u8]) -> Board {
+    let b = out.board;
+    cell(out.answer as u64);
+    standing(b);
     changes::tell(a, b, same);
     b
 }
@@ -35,20 +40,22 @@ fn kind(k: u64) {
     }
 }
 
+// The numbers of a case from one on.
+fn cells(row: [u64; 5], from: usize) {
+    for i in from..5 {
+        cell(row[i]);
+    }
+}
+
 fn step(b: Board, row: [u64; 5]) -> Board {
     kind(row[1]);
-    cell(row[2]);
-    cell(row[3]);
-    cell(row[4]);
+    cells(row, 2);
     outcome(b, steps::step(b, edits::step_of(row)), b"kept")
 }
 
 fn name(row: [u64; 5]) {
     word(&CASES, row[0] as usize);
-    cell(row[1]);
-    cell(row[2]);
-    cell(row[3]);
-    cell(row[4]);
+    cells(row, 1);
 }
 
 // What an opening hands back is held against a blank board.

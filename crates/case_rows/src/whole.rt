@@ -3,9 +3,8 @@ use crate::lists::whole_case;
 use crate::print::cell;
 use crate::print::newline;
 use crate::print::number;
-use crate::print::tab;
 use crate::print::text;
-use crate::print::verdict;
+use crate::tell::standing;
 use rules::Board;
 use rules::Outcome;
 
@@ -13,9 +12,7 @@ fn line(i: usize, out: Outcome) -> Board {
     let b = out.board;
     number(i as u64);
     cell(out.answer as u64);
-    cell(b.debt);
-    tab();
-    verdict(board::finished(b));
+    standing(b);
     newline();
     b
 }
