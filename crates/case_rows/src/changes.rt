@@ -14,8 +14,10 @@ const STATES: [u8; 19] = *b"idle\tactive\twaiting";
 
 const KINDS: [u8; 32] = *b"empty\twork\treturn\trequest\tsupply";
 
+const SUSPENSIONS: [u8; 14] = *b"free\tsuspended";
+
 // The place of a state among their words.
-fn state_place(s: State) -> usize {
+fn state_place(s: State) -> u64 {
     match s {
         State::Idle => 0,
         State::Active => 1,
@@ -24,7 +26,7 @@ fn state_place(s: State) -> usize {
 }
 
 // The place of a kind among their words.
-fn kind_place(k: Kind) -> usize {
+fn kind_place(k: Kind) -> u64 {
     match k {
         Kind::Empty => 0,
         Kind::Work => 1,
@@ -34,121 +36,107 @@ fn kind_place(k: Kind) -> usize {
     }
 }
 
-fn same_unit(x: UnitRecord, y: UnitRecord) -> bool {
+// An entry is four numbers. A unit's are its state, weight and countdown, and whether it is suspended.
+fn unit_entry(x: UnitRecord) -> [u64; 4] {
     let s = x.state;
-    let t = y.state;
-    x.weight == y.weight
-        && x.countdown == y.countdown
-        && x.suspended == y.suspended
-        && state_place(s) == state_place(t)
+    [
+        state_place(s),
+        x.weight,
+        x.countdown as u64,
+        x.suspended as u64,
+    ]
 }
 
-fn same_slot(x: Slot, y: Slot) -> bool {
-    let k = x.kind;
-    let l = y.kind;
-    x.weight == y.weight && x.from == y.from && x.to == y.to && kind_place(k) == kind_place(l)
+fn slot_entry(y: Slot) -> [u64; 4] {
+    let k = y.kind;
+    [kind_place(k), y.from as u64, y.to as u64, y.weight]
 }
 
-// A line of its own, under the line of the row.
-fn under(t: &[u8]) {
+// The entries of a board: 64 parents, 64 units, 256 slots.
+fn entry(b: Board, i: usize) -> [u64; 4] {
+    if i < 64 {
+        return [b.parents[i] as u64, 0, 0, 0];
+    }
+    if i < 128 {
+        return unit_entry(b.units[i - 64]);
+    }
+    if i < 384 {
+        return slot_entry(b.slots[i - 128]);
+    }
+    [0, 0, 0, 0]
+}
+
+fn same(x: [u64; 4], y: [u64; 4]) -> bool {
+    x[0] == y[0] && x[1] == y[1] && x[2] == y[2] && x[3] == y[3]
+}
+
+// Begins a line of its own, under the line of the case: a word and a number.
+fn under(t: &[u8], n: u64) {
     newline();
     tab();
     text(t);
+    cell(n);
 }
 
-fn suspension(suspended: bool) {
-    if suspended {
-        text(b"suspended");
+fn tell_unit(i: usize, e: [u64; 4]) {
+    under(b"unit", i as u64);
+    tab();
+    word(&STATES, e[0] as usize);
+    cell(e[1]);
+    cell(e[2]);
+    tab();
+    word(&SUSPENSIONS, e[3] as usize);
+}
+
+fn tell_slot(i: usize, e: [u64; 4]) {
+    under(b"slot", i as u64);
+    tab();
+    word(&KINDS, e[0] as usize);
+    cell(e[1]);
+    cell(e[2]);
+    cell(e[3]);
+}
+
+fn tell_entry(i: usize, e: [u64; 4]) {
+    if i < 64 {
+        under(b"parent", i as u64);
+        cell(e[0]);
+    } else if i < 128 {
+        tell_unit(i - 64, e);
     } else {
-        text(b"free");
+        tell_slot(i - 128, e);
     }
 }
 
-fn tell_unit(i: usize, x: UnitRecord) {
-    let s = x.state;
-    under(b"unit");
-    cell(i as u64);
-    tab();
-    word(&STATES, state_place(s));
-    cell(x.weight);
-    cell(x.countdown as u64);
-    tab();
-    suspension(x.suspended);
-}
-
-fn tell_slot(j: usize, y: Slot) {
-    let k = y.kind;
-    under(b"slot");
-    cell(j as u64);
-    tab();
-    word(&KINDS, kind_place(k));
-    cell(y.from as u64);
-    cell(y.to as u64);
-    cell(y.weight);
-}
-
-fn tell_parent(i: usize, p: u16) {
-    under(b"parent");
-    cell(i as u64);
-    cell(p as u64);
-}
-
-fn units_same(a: Board, b: Board) -> bool {
-    let mut same = true;
-    for i in 0..64 {
-        let x = b.units[i];
-        if !same_unit(a.units[i], x) {
-            tell_unit(i, x);
-            same = false;
+fn entries_same(a: Board, b: Board) -> bool {
+    let mut all = true;
+    for i in 0..384 {
+        let e = entry(b, i);
+        if !same(entry(a, i), e) {
+            tell_entry(i, e);
+            all = false;
         }
     }
-    same
-}
-
-fn slots_same(a: Board, b: Board) -> bool {
-    let mut same = true;
-    for j in 0..256 {
-        let y = b.slots[j];
-        if !same_slot(a.slots[j], y) {
-            tell_slot(j, y);
-            same = false;
-        }
-    }
-    same
-}
-
-fn parents_same(a: Board, b: Board) -> bool {
-    let mut same = true;
-    for i in 0..64 {
-        let p = b.parents[i];
-        if a.parents[i] != p {
-            tell_parent(i, p);
-            same = false;
-        }
-    }
-    same
+    all
 }
 
 fn sizes_same(a: Board, b: Board) -> bool {
     if a.n == b.n && a.m == b.m && a.delay == b.delay {
         return true;
     }
-    under(b"sizes");
-    cell(b.n as u64);
+    under(b"sizes", b.n as u64);
     cell(b.m as u64);
     cell(b.delay as u64);
     false
 }
 
-// Writes how b differs from a, or the word `same` where it does not. The debt is not written: it stands in the row's line.
-pub(crate) fn tell(a: Board, b: Board, same: &[u8]) {
+// Writes how b differs from a, or the word `kept` where it does not. The debt is not written: it stands in the case's line.
+pub(crate) fn tell(a: Board, b: Board, kept: &[u8]) {
     let sizes = sizes_same(a, b);
-    let parents = parents_same(a, b);
-    let units = units_same(a, b);
-    let slots = slots_same(a, b);
-    if sizes && parents && units && slots && a.debt == b.debt {
+    let entries = entries_same(a, b);
+    if sizes && entries && a.debt == b.debt {
         tab();
-        text(same);
+        text(kept);
     }
     newline();
 }

@@ -23,11 +23,11 @@ pub(crate) fn standing(b: Board) {
 }
 
 // The answer and how the board stands, then what is not as on the board a.
-fn outcome(a: Board, out: Outcome, same: &[u8]) -> Board {
+fn outcome(a: Board, out: Outcome, kept: &[u8]) -> Board {
     let b = out.board;
     cell(out.answer as u64);
     standing(b);
-    changes::tell(a, b, same);
+    changes::tell(a, b, kept);
     b
 }
 
