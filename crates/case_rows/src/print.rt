@@ -1,6 +1,8 @@
 // Words and numbers on standard output. No contract can say what arrives there: what is written is compared.
+use casetext::put_verdict;
 use fields::field;
 use libc::STDOUT_FILENO;
+use placing::Wrote;
 use rules::Depth;
 use rules::Verdict;
 
@@ -33,10 +35,12 @@ pub(crate) fn word(words: &[u8], k: usize) {
 
 // What finished tells, or the number of a refusal.
 pub(crate) fn verdict(v: Verdict) {
-    match v {
-        Verdict::Working => text(b"working"),
-        Verdict::Finished => text(b"finished"),
-        Verdict::Refused(k) => number(k as u64),
+    let mut out = [0u8; 20];
+    let Wrote::Count(n) = put_verdict(v, &mut out, 0) else {
+        return;
+    };
+    if n <= 20 {
+        text(&out[0..n]);
     }
 }
 

@@ -15,18 +15,13 @@ use rules::Board;
 use rules::Outcome;
 use rules::StepRecord;
 
-// Debt and verdict.
-pub(crate) fn standing(b: Board) {
-    cell(b.debt);
-    tab();
-    print::verdict(board::finished(b));
-}
-
-// The answer and how the board stands, then what is not as on the board a.
+// Answer, debt and verdict, then what is not as on the board a.
 fn outcome(a: Board, out: Outcome, kept: &[u8]) -> Board {
     let b = out.board;
     cell(out.answer as u64);
-    standing(b);
+    cell(b.debt);
+    tab();
+    print::verdict(board::finished(b));
     changes::tell(a, b, kept);
     b
 }

@@ -1,16 +1,17 @@
-// A row of numbers, as the tables of cases have them: written whole at a place of a buffer, or refused by 27 with the buffer as it was.
+// What programs that execute cases write alike: written whole at a place of a buffer, or refused by 27 with the buffer as it was.
 use decimal::digit_count;
 use decimal::put_number;
 use decimal::put_tabbed_number;
 use placing::Wrote;
 use placing::put_bytes;
+use rules::Verdict;
 ghost use mathlib.Core.Path.{_≡_};
 ghost use Prim.Native.Nat.{_+_, _≤_};
 ghost use lib.Dec.{leb};
 ghost use lib.ListN.{length};
 ghost use lib.Seq.{sets};
 ghost use Rattle.placing.specs.Placing.{Writes};
-ghost use Rattle.casetext.specs.Rows.{cellsText, rowText};
+ghost use Rattle.casetext.specs.Rows.{cellsText, rowText, verdictText};
 
 // Whether the cells and the line's end fit in the room, which is counted down: no sum wraps.
 fn cells_fit(cells: &[u64], room: usize) -> bool
@@ -65,4 +66,15 @@ pub fn put_row(first: u64, cells: &[u64], out: &mut [u8], at: usize) -> Wrote
     put_number(first, out, at);
     let end = cells_in(cells, out, at + k);
     Wrote::Count(end - at)
+}
+
+// What finished tells, at a place.
+pub fn put_verdict(v: Verdict, out: &mut [u8], at: usize) -> Wrote
+    ensures { λ r. ⌜ Writes (verdictText v) at (now (out .entry)) r (now (out .exit)) ⌝ }
+{
+    match v {
+        Verdict::Working => put_bytes(b"working", out, at),
+        Verdict::Finished => put_bytes(b"finished", out, at),
+        Verdict::Refused(k) => put_number(k as u64, out, at),
+    }
 }

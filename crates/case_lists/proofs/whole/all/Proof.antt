@@ -1,8 +1,8 @@
 -- The measure is the number of steps that are left.
 use Prim.Native.Nat.{_≤_, _-_}
 use borrow.Author.Needs.{needs}
-use Rattle.case_rows.proofs.whole.all.Statement.{statement}
-use Rattle.case_rows.proofs.whole.all.Tie as tie
+use Rattle.case_lists.proofs.whole.all.Statement.{statement}
+use Rattle.case_lists.proofs.whole.all.Tie as tie
 
 abbrev Inv-loop : tie.InvT-loop
 Inv-loop b₀ list i₀ b i = i ≤ 9
@@ -10,11 +10,8 @@ Inv-loop b₀ list i₀ b i = i ≤ 9
 abbrev μ-loop : tie.MeasureT-loop
 μ-loop b₀ list i₀ b i = 9 - i
 
-slice-aggregate-text : tie.Need-slice-aggregate-text Inv-loop μ-loop
-slice-aggregate-text c = search needs
-
-text-requires : tie.Need-text-requires Inv-loop μ-loop
-text-requires c κs = search needs
+heading-requires : tie.Need-heading-requires Inv-loop μ-loop
+heading-requires c κs = search needs
 
 slice-aggregate-open : tie.Need-slice-aggregate-open Inv-loop μ-loop
 slice-aggregate-open c = search needs
@@ -64,8 +61,7 @@ all-spec =
     (tie.spec
     Inv-loop
     μ-loop
-    slice-aggregate-text
-    text-requires
+    heading-requires
     slice-aggregate-open
     open-requires
     line-requires

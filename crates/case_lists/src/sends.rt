@@ -1,7 +1,5 @@
 // One unit sends from 2^24 until its weight is 1: 16,393 times. Each message is delivered before the next, so that the slot is free.
-use crate::print::cell;
-use crate::print::newline;
-use crate::print::number;
+use crate::print::row;
 use crate::print::text;
 use rules::Board;
 use rules::Outcome;
@@ -14,6 +12,9 @@ const START: u16 = 1;
 const SEND: u16 = 2;
 
 const DELIVER: u16 = 4;
+
+// No cells behind a number.
+const NOTHING: [u64; 0] = [];
 
 fn step(b: Board, kind: u16, other: u16) -> Outcome {
     let r = StepRecord {
@@ -32,10 +33,7 @@ fn is_written(k: u64, answer: u16) -> bool {
 
 fn line(k: u64, answer: u16, b: Board) {
     let x = b.units[0];
-    number(k);
-    cell(answer as u64);
-    cell(x.weight);
-    newline();
+    row(k, &[answer as u64, x.weight]);
 }
 
 // Send k, from unit 0 to unit 1 by slot 0, and its delivery.
@@ -64,17 +62,13 @@ fn last_sends(b: Board) -> Board {
     next.board
 }
 
-fn total(title: &[u8], n: u64) {
-    text(title);
-    cell(n);
-    newline();
-}
-
 pub(crate) fn all() {
     text(b"send\tanswer\tleft\n");
     let fresh = board::open(1, 0, &[0]).board;
     let b = last_sends(sends(step(fresh, START, 0).board));
     let y = b.units[1];
-    total(b"received", y.weight);
-    total(b"debt", b.debt);
+    text(b"received\t");
+    row(y.weight, &NOTHING);
+    text(b"debt\t");
+    row(b.debt, &NOTHING);
 }

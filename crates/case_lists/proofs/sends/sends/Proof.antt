@@ -1,8 +1,8 @@
 -- The measure is the number of sends that are left.
 use Prim.Native.Nat.{_≤_, _-_}
 use borrow.Author.Needs.{needs}
-use Rattle.case_rows.proofs.sends.sends.Statement.{statement}
-use Rattle.case_rows.proofs.sends.sends.Tie as tie
+use Rattle.case_lists.proofs.sends.sends.Statement.{statement}
+use Rattle.case_lists.proofs.sends.sends.Tie as tie
 
 abbrev Inv-loop : tie.InvT-loop
 Inv-loop b₀ k₀ b k = k ≤ 16393

@@ -4,10 +4,9 @@ use crate::lists::refusals;
 use crate::lists::rest_of_it;
 use crate::lists::whole_case;
 use crate::print::cell;
-use crate::print::newline;
-use crate::print::number;
+use crate::print::row;
 use crate::print::text;
-use crate::tell::standing;
+use crate::print::verdict;
 use rules::Board;
 use rules::Ran;
 use rules::StepRecord;
@@ -25,12 +24,16 @@ fn tell_ran(ran: Ran) {
     }
 }
 
+fn wide(x: u16) -> u64 {
+    x as u64
+}
+
 fn tell_buffer(buffer: [u16; 18]) {
-    number(buffer[0] as u64);
-    for i in 1..18 {
-        cell(buffer[i] as u64);
+    let mut cells = [0u64; 17];
+    for i in 0..17 {
+        cells[i] = wide(buffer[i + 1]);
     }
-    newline();
+    row(wide(buffer[0]), &cells);
 }
 
 // Runs the first `count` steps with room for `room` answers, and tells what the whole buffer holds then.
@@ -42,11 +45,13 @@ fn run(title: &[u8], b: Board, list: [StepRecord; 16], count: usize, room: usize
     let c = r.board;
     let ran = r.ran;
     text(title);
-    newline();
+    text(b"\n");
     tell_buffer(buffer);
     tell_ran(ran);
-    standing(c);
-    newline();
+    cell(c.debt);
+    text(b"\t");
+    verdict(board::finished(c));
+    text(b"\n");
     c
 }
 

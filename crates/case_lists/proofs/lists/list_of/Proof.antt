@@ -3,8 +3,8 @@ use Prim.Native.Nat.{_≤_, _-_}
 use mathlib.Core.Path.{_≡_}
 use lib.ListN.{length}
 use borrow.Author.Needs.{needs}
-use Rattle.case_rows.proofs.lists.list_of.Statement.{statement}
-use Rattle.case_rows.proofs.lists.list_of.Tie as tie
+use Rattle.case_lists.proofs.lists.list_of.Statement.{statement}
+use Rattle.case_lists.proofs.lists.list_of.Tie as tie
 
 abbrev Inv-loop : tie.InvT-loop
 Inv-loop rows list₀ i₀ list i = (i ≤ 16) × (length list ≡ 16)
