@@ -6,7 +6,7 @@ mod limits;
 mod lines;
 mod weights;
 
-use casetext::text;
+use lines::print;
 use rules::Board;
 
 // 2^24, what a start or a grant brings.
@@ -41,12 +41,12 @@ fn limits_table() {
 }
 
 fn main() {
-    text(b"damaged\n");
+    print(b"damaged\n");
     damages_table(bases::working(), FIELDS_AND_DEBT, false);
-    text(b"balanced\n");
+    print(b"balanced\n");
     damages_table(bases::working(), FIELDS, true);
-    text(b"suspended\n");
+    print(b"suspended\n");
     damages_table(bases::suspended(), FIELDS, true);
-    text(b"limits\n");
+    print(b"limits\n");
     limits_table();
 }

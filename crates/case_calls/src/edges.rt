@@ -1,9 +1,7 @@
 // Calls of a writer about the edges of its room: the first part of a buffer of 40 bytes.
 ghost use Prim.Native.Nat.{_≤_};
+use crate::lines::row;
 use crate::writers;
-use casetext::cell;
-use casetext::newline;
-use casetext::number;
 use placing::Wrote;
 use std::num::wrapping_add_u64;
 use std::num::wrapping_add_usize;
@@ -54,17 +52,19 @@ fn place(room: usize, k: usize) -> usize {
     }
 }
 
-// The refusal and the bytes written, 0 where there are none.
-fn wrote(r: Wrote) {
-    match r {
-        Wrote::Count(n) => {
-            cell(0);
-            cell(n as u64);
-        }
-        Wrote::Refused(k) => {
-            cell(k as u64);
-            cell(0);
-        }
+// The refusal, 0 where there is none.
+fn refusal(w: Wrote) -> u64 {
+    match w {
+        Wrote::Count(_) => 0,
+        Wrote::Refused(k) => k as u64,
+    }
+}
+
+// The bytes written, 0 where there are none.
+fn count(w: Wrote) -> u64 {
+    match w {
+        Wrote::Count(n) => n as u64,
+        Wrote::Refused(_) => 0,
     }
 }
 
@@ -79,23 +79,27 @@ fn checksum(buffer: [u8; BYTES]) -> u64 {
     sum
 }
 
-fn call(w: usize, room: usize, at: usize)
+fn told(k: usize, w: usize, room: usize, at: usize)
     requires { ⌜ room ≤ 40 ⌝ }
 {
     let mut buffer = [b'.'; BYTES];
-    let r = writers::write(w, &mut buffer[0..room], at);
-    cell(writers::name(w));
-    cell(room as u64);
-    cell(at as u64);
-    wrote(r);
-    cell(checksum(buffer));
-    newline();
+    let wrote = writers::write(w, &mut buffer[0..room], at);
+    row(
+        k,
+        &[
+            writers::name(w),
+            room as u64,
+            at as u64,
+            refusal(wrote),
+            count(wrote),
+            checksum(buffer),
+        ],
+    );
 }
 
 // Call k of the table whose first writer is given: five rooms for each writer, with each of them five places.
-pub(crate) fn row(k: usize, first: usize) {
+pub(crate) fn call(k: usize, first: usize) {
     let w = wrapping_add_usize(first, k / 25);
     let room = at_most_40(room(length_of(w), k % 25 / 5));
-    number(k as u64);
-    call(w, room, place(room, k % 5));
+    told(k, w, room, place(room, k % 5));
 }

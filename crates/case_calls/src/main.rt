@@ -1,9 +1,10 @@
 // What the run and the writers answer where no script reaches: short buffers, kinds that no step has, and little room for a line.
 mod edges;
+mod lines;
 mod runs;
 mod writers;
 
-use casetext::text;
+use lines::print;
 
 // Two boards, five lengths of the list, six of the buffer.
 const RUNS: usize = 60;
@@ -15,22 +16,22 @@ const HEADS: usize = 125;
 
 fn runs_table() {
     for k in 0..RUNS {
-        runs::row(k);
+        runs::run(k);
     }
 }
 
 // So many calls of the writers from the first on.
 fn writers_table(first: usize, calls: usize) {
     for k in 0..calls {
-        edges::row(k, first);
+        edges::call(k, first);
     }
 }
 
 fn main() {
-    text(b"runs\n");
+    print(b"runs\n");
     runs_table();
-    text(b"writes\n");
+    print(b"writes\n");
     writers_table(0, WRITES);
-    text(b"heads\n");
+    print(b"heads\n");
     writers_table(writers::STEPS, HEADS);
 }

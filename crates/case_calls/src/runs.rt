@@ -1,8 +1,6 @@
 // Runs over the first steps of a list, with a buffer of some length.
 ghost use Prim.Native.Nat.{_≤_};
-use casetext::cell;
-use casetext::newline;
-use casetext::number;
+use crate::lines::row;
 use rules::Board;
 use rules::Ran;
 use rules::StepRecord;
@@ -35,54 +33,59 @@ fn fresh(sound: bool) -> Board {
     b
 }
 
-fn soundness(b: Board) {
-    if board::is_sound(b) {
-        cell(1);
-    } else {
-        cell(0);
-    }
+// 1 for a sound board.
+fn soundness(b: Board) -> u64 {
+    if board::is_sound(b) { 1 } else { 0 }
 }
 
-// The refusal and the zeros, 0 where there are none.
-fn ran(r: Ran) {
+// The refusal, 0 where there is none.
+fn refusal(r: Ran) -> u64 {
     match r {
-        Ran::Zeros(n) => {
-            cell(0);
-            cell(n as u64);
-        }
-        Ran::Refused(k) => {
-            cell(k as u64);
-            cell(0);
-        }
+        Ran::Zeros(_) => 0,
+        Ran::Refused(k) => k as u64,
     }
 }
 
-fn entries(buffer: [u16; 5]) {
-    cell(buffer[0] as u64);
-    cell(buffer[1] as u64);
-    cell(buffer[2] as u64);
-    cell(buffer[3] as u64);
-    cell(buffer[4] as u64);
+// The zeros written, 0 where the run is refused.
+fn zeros(r: Ran) -> u64 {
+    match r {
+        Ran::Zeros(n) => n as u64,
+        Ran::Refused(_) => 0,
+    }
 }
 
-fn run(b: Board, count: usize, room: usize)
+// What was asked, what the run gives, what the whole buffer holds after it, and the debt.
+fn line(k: usize, asked: [u64; 3], ran: Ran, buffer: [u16; 5], debt: u64) {
+    row(
+        k,
+        &[
+            asked[0],
+            asked[1],
+            asked[2],
+            refusal(ran),
+            zeros(ran),
+            buffer[0] as u64,
+            buffer[1] as u64,
+            buffer[2] as u64,
+            buffer[3] as u64,
+            buffer[4] as u64,
+            debt,
+        ],
+    );
+}
+
+fn told(k: usize, b: Board, count: usize, room: usize)
     requires { ⌜ room ≤ 5 ⌝ }
 {
     let mut buffer: [u16; 5] = [99; 5];
     let r = steps::run_list(b, list(), count, &mut buffer[0..room]);
     let c = r.board;
-    let given = r.ran;
-    soundness(b);
-    cell(count as u64);
-    cell(room as u64);
-    ran(given);
-    entries(buffer);
-    cell(c.debt);
-    newline();
+    let ran = r.ran;
+    let asked = [soundness(b), count as u64, room as u64];
+    line(k, asked, ran, buffer, c.debt);
 }
 
 // Run k of the table: both boards, on each five lengths of the list, with each of them six of the buffer.
-pub(crate) fn row(k: usize) {
-    number(k as u64);
-    run(fresh(k < 30), k % 30 / 6, k % 6);
+pub(crate) fn run(k: usize) {
+    told(k, fresh(k < 30), k % 30 / 6, k % 6);
 }

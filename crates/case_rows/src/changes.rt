@@ -1,0 +1,142 @@
+// How a board differs from another: a line for each entry that does.
+use crate::print::cell;
+use crate::print::newline;
+use crate::print::tab;
+use crate::print::text;
+use crate::print::word;
+use rules::Board;
+use rules::Kind;
+use rules::Slot;
+use rules::State;
+use rules::UnitRecord;
+
+const STATES: [u8; 19] = *b"idle\tactive\twaiting";
+
+const KINDS: [u8; 32] = *b"empty\twork\treturn\trequest\tsupply";
+
+const SUSPENSIONS: [u8; 14] = *b"free\tsuspended";
+
+// The place of a state among their words.
+fn state_place(s: State) -> u64 {
+    match s {
+        State::Idle => 0,
+        State::Active => 1,
+        State::Waiting => 2,
+    }
+}
+
+// The place of a kind among their words.
+fn kind_place(k: Kind) -> u64 {
+    match k {
+        Kind::Empty => 0,
+        Kind::Work => 1,
+        Kind::Return => 2,
+        Kind::Request => 3,
+        Kind::Supply => 4,
+    }
+}
+
+// An entry is four numbers. A unit's are its state, weight and countdown, and whether it is suspended.
+fn unit_entry(x: UnitRecord) -> [u64; 4] {
+    let s = x.state;
+    [
+        state_place(s),
+        x.weight,
+        x.countdown as u64,
+        x.suspended as u64,
+    ]
+}
+
+fn slot_entry(y: Slot) -> [u64; 4] {
+    let k = y.kind;
+    [kind_place(k), y.from as u64, y.to as u64, y.weight]
+}
+
+// The entries of a board: 64 parents, 64 units, 256 slots.
+fn entry(b: Board, i: usize) -> [u64; 4] {
+    if i < 64 {
+        return [b.parents[i] as u64, 0, 0, 0];
+    }
+    if i < 128 {
+        return unit_entry(b.units[i - 64]);
+    }
+    if i < 384 {
+        return slot_entry(b.slots[i - 128]);
+    }
+    [0, 0, 0, 0]
+}
+
+fn same(x: [u64; 4], y: [u64; 4]) -> bool {
+    x[0] == y[0] && x[1] == y[1] && x[2] == y[2] && x[3] == y[3]
+}
+
+// Begins a line of its own, under the line of the case: a word and a number.
+fn under(t: &[u8], n: u64) {
+    newline();
+    tab();
+    text(t);
+    cell(n);
+}
+
+fn tell_unit(i: usize, e: [u64; 4]) {
+    under(b"unit", i as u64);
+    tab();
+    word(&STATES, e[0] as usize);
+    cell(e[1]);
+    cell(e[2]);
+    tab();
+    word(&SUSPENSIONS, e[3] as usize);
+}
+
+fn tell_slot(i: usize, e: [u64; 4]) {
+    under(b"slot", i as u64);
+    tab();
+    word(&KINDS, e[0] as usize);
+    cell(e[1]);
+    cell(e[2]);
+    cell(e[3]);
+}
+
+fn tell_entry(i: usize, e: [u64; 4]) {
+    if i < 64 {
+        under(b"parent", i as u64);
+        cell(e[0]);
+    } else if i < 128 {
+        tell_unit(i - 64, e);
+    } else {
+        tell_slot(i - 128, e);
+    }
+}
+
+fn entries_same(a: Board, b: Board) -> bool {
+    let mut all = true;
+    for i in 0..384 {
+        let e = entry(b, i);
+        if !same(entry(a, i), e) {
+            tell_entry(i, e);
+            all = false;
+        }
+    }
+    all
+}
+
+fn sizes_same(a: Board, b: Board) -> bool {
+    if a.n == b.n && a.m == b.m && a.delay == b.delay {
+        return true;
+    }
+    under(b"sizes", b.n as u64);
+    cell(b.m as u64);
+    cell(b.delay as u64);
+    false
+}
+
+// Writes how b differs from a, or the word `kept` where it does not. The debt is not written: it stands in the case's line.
+pub(crate) fn tell(a: Board, b: Board, kept: &[u8]) {
+    let sizes = sizes_same(a, b);
+    let entries = entries_same(a, b);
+    if sizes && entries && a.debt == b.debt {
+        tab();
+        text(kept);
+    }
+    newline();
+}

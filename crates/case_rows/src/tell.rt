@@ -1,0 +1,110 @@
+// The lines that a case writes.
+use crate::changes;
+use crate::edits;
+use crate::print;
+use crate::print::cell;
+use crate::print::newline;
+use crate::print::number;
+use crate::print::tab;
+use crate::print::text;
+use crate::print::word;
+use crate::words;
+use crate::words::CASES;
+use crate::words::KINDS;
+use rules::Board;
+use rules::Outcome;
+use rules::StepRecord;
+
+// Answer, debt and verdict, then what is not as on the board a.
+fn outcome(a: Board, out: Outcome, kept: &[u8]) -> Board {
+    let b = out.board;
+    cell(out.answer as u64);
+    cell(b.debt);
+    tab();
+    print::verdict(board::finished(b));
+    changes::tell(a, b, kept);
+    b
+}
+
+// The word of a step's kind; a kind outside 1 to 7 has only its number.
+fn kind(k: u64) {
+    if 0 < k && k < 8 {
+        word(&KINDS, k as usize - 1);
+    } else {
+        number(k);
+    }
+}
+
+// The numbers of a case from one on.
+fn cells(row: [u64; 5], from: usize) {
+    for i in from..5 {
+        cell(row[i]);
+    }
+}
+
+fn step(b: Board, row: [u64; 5]) -> Board {
+    kind(row[1]);
+    cells(row, 2);
+    outcome(b, steps::step(b, edits::step_of(row)), b"kept")
+}
+
+fn name(row: [u64; 5]) {
+    word(&CASES, row[0] as usize);
+    cells(row, 1);
+}
+
+// What an opening hands back is held against a blank board.
+fn opening(row: [u64; 5]) -> Board {
+    name(row);
+    outcome(edits::blank_board(), edits::opened(row), b"blank")
+}
+
+fn depth(b: Board, row: [u64; 5]) -> Board {
+    text(b"depth");
+    cell(row[1]);
+    tab();
+    print::depth(board::depth_of(b, edits::small(row[1])));
+    newline();
+    b
+}
+
+fn soundness(sound: bool) {
+    if sound {
+        text(b"sound");
+    } else {
+        text(b"unsound");
+    }
+}
+
+// A step that no sound board takes, since unit 0 never waits: 38.
+const TICK_0: StepRecord = StepRecord {
+    kind: 6,
+    unit: 0,
+    other: 0,
+    slot: 0,
+};
+
+// Whether the edited board is sound, and what a step, depth and finished answer.
+fn edit(b: Board, row: [u64; 5]) -> Board {
+    let c = edits::after(b, row);
+    name(row);
+    tab();
+    soundness(board::is_sound(c));
+    cell(steps::step(c, TICK_0).answer as u64);
+    tab();
+    print::depth(board::depth_of(c, 0));
+    tab();
+    print::verdict(board::finished(c));
+    newline();
+    c
+}
+
+// Runs a case, writes what it gives, and hands back the board after it.
+pub(crate) fn case(b: Board, row: [u64; 5]) -> Board {
+    match row[0] {
+        words::OPEN | words::CHAIN => opening(row),
+        words::STEP => step(b, row),
+        words::DEPTH => depth(b, row),
+        _ => edit(b, row),
+    }
+}
