@@ -12,31 +12,6 @@ use rules::UnitRecord;
 // The most parents that a case can ask for: more than 8 bits count.
 const MOST: usize = 320;
 
-// As a refused opening hands it back.
-pub(crate) fn blank_board() -> Board {
-    let x = UnitRecord {
-        weight: 0,
-        countdown: 0,
-        state: State::Idle,
-        suspended: false,
-    };
-    let y = Slot {
-        weight: 0,
-        from: 0,
-        to: 0,
-        kind: Kind::Empty,
-    };
-    Board {
-        n: 0,
-        m: 0,
-        delay: 0,
-        debt: 0,
-        parents: [0; 64],
-        units: [x; 64],
-        slots: [y; 256],
-    }
-}
-
 // A number of a case as a field of 16 bits.
 pub(crate) fn small(x: u64) -> u16 {
     if x > 65535 {

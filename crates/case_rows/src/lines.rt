@@ -70,7 +70,7 @@ fn case(p: Play, line: &[u8]) -> Play {
 fn worded(p: Play, line: &[u8]) -> Play {
     let k = place_of(field(line, 0), &WORDS, 5);
     match k {
-        BLANK => on(p, BLANK, edits::blank_board()),
+        BLANK => on(p, BLANK, board::blank()),
         KEEP => kept(p),
         STAGE => on(p, STAGE, p.stage),
         RUN | EACH => titled(p, k, line),
@@ -89,7 +89,7 @@ fn turn(p: Play, line: &[u8]) -> Play {
 }
 
 pub(crate) fn all(input: &[u8]) {
-    let b = edits::blank_board();
+    let b = board::blank();
     let mut p = Play {
         word: BLANK,
         stage: b,

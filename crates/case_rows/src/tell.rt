@@ -56,7 +56,7 @@ fn name(row: [u64; 5]) {
 // What an opening hands back is held against a blank board.
 fn opening(row: [u64; 5]) -> Board {
     name(row);
-    outcome(edits::blank_board(), edits::opened(row), b"blank")
+    outcome(board::blank(), edits::opened(row), b"blank")
 }
 
 fn depth(b: Board, row: [u64; 5]) -> Board {

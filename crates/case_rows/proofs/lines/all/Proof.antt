@@ -13,8 +13,8 @@ Inv-loop input p₀ at₀ p at = at ≤ length input
 abbrev μ-loop : tie.MeasureT-loop
 μ-loop input p₀ at₀ p at = length input - at
 
-blank-board-requires : tie.Need-blank-board-requires Inv-loop μ-loop
-blank-board-requires c κs = search needs
+blank-requires : tie.Need-blank-requires Inv-loop μ-loop
+blank-requires c κs = search needs
 
 loop-holds : tie.Need-loop-holds Inv-loop μ-loop
 loop-holds c = search needs
@@ -63,7 +63,7 @@ all-spec =
     (tie.spec
     Inv-loop
     μ-loop
-    blank-board-requires
+    blank-requires
     loop-holds
     end-from-requires
     sub-turn
