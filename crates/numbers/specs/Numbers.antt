@@ -36,14 +36,14 @@ pub record FieldCheck : Type 0 where
   pub passes : Bool
   pub number : ℕ
 
--- 24 a number field empty, with a byte that is no digit, or above 65,535. The first of the row that fails refuses the line, whichever
--- field is the first bad one
+-- 24 a number field empty, with a byte that is no digit, or above 65,535. The first of the row that fails refuses the line, whichever of
+-- its fields is the first bad one
 abbrev pub fieldChecks : List (List ℕ) → List FieldCheck
 fieldChecks fs =
     record { passes = allNumbers fs; number = 24 }
     ∷ []
 
--- 0 where none fails
+-- the number of the first that fails, 0 where none does
 abbrev pub firstFailed : List FieldCheck → ℕ
 firstFailed [] = 0
 firstFailed (c ∷ cs) = cond (c .passes) (firstFailed cs) (c .number)
@@ -57,10 +57,11 @@ padded zero vs = []
 padded (suc n) [] = 0 ∷ padded n []
 padded (suc n) (v ∷ vs) = v ∷ padded n vs
 
--- a line of 255 bytes has room for 128 numbers; a refused line has no values
+-- a line of 255 bytes has room for 128 numbers
 abbrev pub room : ℕ
 room = 128
 
+-- how many fields there are, the line's refusal, and the values; a refused line has none
 abbrev pub numbersOf : List (List ℕ) → Numbers
 numbersOf fs = record {
   count = length fs;

@@ -18,7 +18,7 @@ fn value_of(n: Number) -> u16
     }
 }
 
-// A line's refusal with one more field: the first in the order of numbers.
+// A line's refusal with one more field. A field's refusal is 24 always, so there is no order among several to keep.
 fn refusal_with(refusal: u16, n: Number) -> u16
     ensures { λ r. ⌜ r ≡ refusalWith refusal n ⌝ }
 {
