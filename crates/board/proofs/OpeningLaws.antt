@@ -11,8 +11,7 @@ use lib.Seq.{take-length}
 use lib.Dec.{eqb}
 use borrow.Author.Tests.{ne-eqb}
 use Rattle.rules.specs.Facts.{Fact, below}
-use Rattle.rules.specs.Opening.{lowerParents, openingChecks, fresh, blankBoard, opening}
-use Rattle.rules.specs.declared.Outcome.{Outcome}
+use Rattle.rules.specs.Opening.{lowerParents, openingChecks, fresh, opening, refusedBy}
 use Rattle.rules.proofs.FactLaws.{each-at, each-of, each-claims, each-tested, judge-passed}
 use Rattle.board.proofs.TestLaws.{not-true-false}
 use Rattle.rules.proofs.JudgeLaws.{numberOf, Numbered, judge-by-number, number-claims}
@@ -54,16 +53,13 @@ pub few-parents : (m d : ℕ) (ps : List ℕ) → numberOf (openingChecks m d ps
 few-parents m d ps e = number-claims (openingChecks m d ps) (numbered m d ps) e .0
 
 -- what an opening hands back with the answer k
-abbrev refusedWith : ℕ → Outcome
-refusedWith k = record { answer = k; board = blankBoard }
-
 pub opened : (m d : ℕ) (ps : List ℕ) → numberOf (openingChecks m d ps) ≡ 0 → opening m d ps ≡ record { answer = 0; board = fresh m d ps }
 unfolding opening
-opened m d ps e = judge-passed refusedWith (openingChecks m d ps) (record { answer = 0; board = fresh m d ps }) (number-claims (openingChecks m d ps) (numbered m d ps) e)
+opened m d ps e = judge-passed refusedBy (openingChecks m d ps) (record { answer = 0; board = fresh m d ps }) (number-claims (openingChecks m d ps) (numbered m d ps) e)
 
-pub not-opened : (m d k : ℕ) (ps : List ℕ) → numberOf (openingChecks m d ps) ≡ k → (k ≡ 0 → ⊥) → opening m d ps ≡ refusedWith k
+pub not-opened : (m d k : ℕ) (ps : List ℕ) → numberOf (openingChecks m d ps) ≡ k → (k ≡ 0 → ⊥) → opening m d ps ≡ refusedBy k
 unfolding opening
-not-opened m d k ps e h = judge-by-number refusedWith (openingChecks m d ps) (record { answer = 0; board = fresh m d ps }) (numbered m d ps) ∙ by-number (numberOf (openingChecks m d ps)) e
+not-opened m d k ps e h = judge-by-number refusedBy (openingChecks m d ps) (record { answer = 0; board = fresh m d ps }) (numbered m d ps) ∙ by-number (numberOf (openingChecks m d ps)) e
   where
-    by-number : (j : ℕ) → j ≡ k → cond (eqb j 0) (record { answer = 0; board = fresh m d ps }) (refusedWith j) ≡ refusedWith k
+    by-number : (j : ℕ) → j ≡ k → cond (eqb j 0) (record { answer = 0; board = fresh m d ps }) (refusedBy j) ≡ refusedBy k
     by-number j q = rw (q, ne-eqb k 0 h)

@@ -1,15 +1,14 @@
 -- A change stored at its places is the step: what the step and each turn of a batch rest on.
-use mathlib.Core.Path.{_≡_, refl, sym, ap, _∙_}
+use mathlib.Core.Path.{_≡_, sym, ap, _∙_}
 use mathlib.Core.Bool.{Bool, true, false}
 use Prim.Native.Nat.{ℕ}
 use native.Mathlib.Omega.{arith}
-use Rattle.rules.specs.Words.{blankUnit, blankSlot, parentAt, unitAt, slotAt}
+use Rattle.rules.specs.Words.{parentAt, unitAt, slotAt}
 use Rattle.rules.specs.Sound.{Sound, sound}
 use Rattle.rules.specs.Actions.{actionOf}
 use Rattle.rules.specs.Steps.{effect, stored, applied, soundStep, step}
 use Rattle.rules.specs.declared.Board.{Board}
 use Rattle.rules.specs.declared.StepRecord.{StepRecord}
-use Rattle.rules.specs.declared.Outcome.{Outcome}
 use Rattle.rules.proofs.Changes.{refused-applied}
 use Rattle.rules.proofs.SoundLaws.{sound-claims, weights-fit}
 use Rattle.rules.specs.declared.Change.{Change}

@@ -3,7 +3,6 @@ use mathlib.Core.Path.{_≡_, sym, ap, subst}
 use mathlib.Core.List.{[], _∷_}
 use Rattle.rules.specs.Events.{afterAll}
 use Rattle.rules.specs.Steps.{step}
-use Rattle.rules.specs.Lists.{after}
 use Rattle.rules.specs.Guarantee.{Carries}
 use Rattle.rules.specs.declared.Board.{Board}
 use Rattle.rules.specs.declared.StepRecord.{StepRecord}

@@ -7,7 +7,6 @@ use borrow.Author.Needs.{needs}
 use borrow.Author.Tests.{not-true, not-false, eq-eqb, ne-eqb}
 use Rattle.rules.specs.Events.{afterAll}
 use Rattle.rules.specs.Sound.{sound}
-use Rattle.rules.specs.Lists.{after}
 use Rattle.rules.specs.Finished.{verdict, Complete}
 use Rattle.rules.specs.Guarantee.{Carries}
 use Rattle.rules.proofs.FinishedLaws.{finished-tells}
