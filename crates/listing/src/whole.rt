@@ -11,11 +11,11 @@ ghost use lib.Dec.{leb};
 ghost use Rattle.placing.specs.Placing.{Writes};
 ghost use Rattle.listing.specs.Scripts.{listing};
 
-// Listed in parts, which are counted and thrown away.
+// Listed in parts, which are counted and thrown away. Large parts, since towards the end of each the batches get small.
 pub fn listing_length(script: &[u8]) -> usize
     ensures { λ n. ⌜ n ≡ length (listing (now (script .entry))) ⌝ }
 {
-    let mut part = [0u8; 4096];
+    let mut part = [0u8; 32768];
     let mut c = beginning();
     let mut n: usize = 0;
     while !is_ended(c, script) {
