@@ -59,8 +59,8 @@ uint16_t ayokwelifu_listing_length(const uint8_t *script, size_t script_length, 
 
 /*
  * The script's listing goes to the start of out, and its length to *count; the rest of out is left as it was.
- * Returns 0, or 27 where the listing does not fit in out. Since a refusal leaves out as it was, the length is found
- * before a byte is written.
+ * Returns 0, or 27 where the listing does not fit in out, which is then left as it was. Where out has 38 bytes and 37
+ * for each line of the script but the first, the listing surely fits and is made once; else its length is found first.
  */
 uint16_t ayokwelifu_list(const uint8_t *script, size_t script_length, uint8_t *out, size_t out_length, uint64_t *count);
 

@@ -109,6 +109,29 @@ fn long_scripts() {
     show(b"a script of 65,536 bytes", &script);
 }
 
+// A title, what a listing of 59 bytes gives in so many bytes at the start of a buffer, and the buffer after it.
+fn in_room(title: &[u8], room: usize, out: &mut [u8]) {
+    text(b"-- ");
+    text(title);
+    text(b"\n");
+    let n = least(room, out.len());
+    let w = listing::list_all(b"board\t1\t0\nstart\t0\n", &mut out[0..n]);
+    match w {
+        Wrote::Count(_) => text(b"written\n"),
+        Wrote::Refused(_) => text(b"no room\n"),
+    }
+    text(out);
+    text(b"\n");
+}
+
+// Where 38 bytes and 37 for the further line fit, one byte less, an exact fit, and one byte less.
+fn rooms() {
+    in_room(b"a buffer of 75 bytes", 75, &mut [b'.'; 76]);
+    in_room(b"a buffer of 74 bytes", 74, &mut [b'.'; 76]);
+    in_room(b"a buffer of 59 bytes", 59, &mut [b'.'; 76]);
+    in_room(b"a buffer of 58 bytes", 58, &mut [b'.'; 76]);
+}
+
 fn main() {
     whole_case();
     lines();
@@ -117,4 +140,5 @@ fn main() {
     long_lines();
     parents();
     long_scripts();
+    rooms();
 }

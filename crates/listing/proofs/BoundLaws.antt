@@ -1,62 +1,80 @@
--- No listing is longer than its bounds: each line behind the first takes at least a byte of the script.
-use mathlib.Core.Path.{_≡_, refl, sym, ap, subst, _∙_}
+-- No listing is longer than its bounds.
+use mathlib.Core.Path.{_≡_, refl, sym, ap, _∙_}
 use mathlib.Core.Bool.{Bool, true, false, cond}
-use mathlib.Core.List.{List, [], _++_}
-use Prim.Native.Nat.{ℕ, zero, suc, _+_, _-_, _*_, _≤_}
+use mathlib.Core.List.{List, [], _∷_, _++_}
+use Prim.Native.Nat.{ℕ, suc, _+_, _-_, _*_, _≤_}
 use native.Mathlib.Omega.{arith}
 use lib.ListN.{length, drop, length-append}
-use borrow.Author.Tests.{eq-eqb, ne-eqb}
-use Rattle.rules.proofs.SoundLaws.{below-or-not}
+use lib.Dec.{leb}
+use borrow.Author.Tests.{eq-eqb, ne-eqb, le-leb, leb-true}
+use Rattle.rules.specs.Opening.{refusedBy}
+use Rattle.rules.specs.declared.Board.{Board}
 use Rattle.rules.specs.declared.Outcome.{Outcome}
-use Rattle.fields.specs.Fields.{upTo}
-use Rattle.numbers.specs.Lines.{behind}
-use Rattle.listing.specs.Scripts.{startOutcome, listing}
-use Rattle.listing.specs.Bounds.{longestPiece, longestLine, ListingBoundByLength, ListingBound}
-use Rattle.listing.specs.Parts.{Piece, beginning, ended, firstPiece, laterPiece, piece, restWithin, rest}
-use Rattle.listing.specs.Turns.{startPlace}
-use Rattle.listing.proofs.StartLaws.{Started, opened, refused, starts, startCursor, start-next}
-use Rattle.listing.proofs.PieceLaws.{piece-later, later-begun, turns, past-fewer, piece-fewer, rest-piece, rest-beginning}
-use Rattle.listing.proofs.LengthLaws.{later-most, Kept, not-begun-kept, piece-kept, piece-most}
-use Rattle.listing.specs.declared.Cursor.{Cursor}
+use Rattle.numbers.specs.Lines.{linesOf}
+use Rattle.texts.specs.Texts.{heading, boardText, refusedText}
+use Rattle.listing.specs.Scripts.{laterOutcome, startOutcome, textOf, laterLines, openedLines, openedText, listing}
+use Rattle.listing.specs.Bounds.{longestPiece, longestLine, furtherLines, boundByLines, ListingBoundByLines, ListingBoundByLength, ListingBound}
+use Rattle.listing.specs.Parts.{Piece}
+use Rattle.listing.proofs.StartLaws.{Started, opened, refused, starts, first-text, refused-piece}
+use Rattle.listing.proofs.PieceLaws.{number-next}
+use Rattle.listing.proofs.LengthLaws.{first-most}
+use Rattle.listing.proofs.BatchLaws.{batchText, batch-most}
+use Rattle.listing.proofs.FurtherLaws.{further-few}
 
-later-text-most : (c : Cursor) (s : List ℕ) → Kept c s → c .begun ≡ true → ended c s ≡ false → length (piece c s .text) ≤ longestLine
-unfolding Kept laterPiece
-later-text-most c s h b e =
-    omega (arith, ap (λ (p : Piece). length (p .text)) (piece-later c s b), later-most (c .line) (c .board) (upTo 10 (drop (c .at) s)) (h e b .line) (h e b .is-sound))
+-- the lines behind the first are one batch: no script has more lines than there are line numbers
+later-batch : (n : ℕ) (b : Board) (ls : List (List ℕ)) → n + length ls ≤ 4294967295 → textOf (laterLines n b ls) ≡ batchText n b ls
+unfolding textOf laterLines batchText
+later-batch n b [] p = refl
+later-batch n b (l ∷ ls) p =
+    let next : Board = laterOutcome b l .board in
+    ap (λ (t : List ℕ). boardText n (laterOutcome b l .answer) next ++ t)
+    (later-batch (suc n) next ls (omega (arith, p)) ∙ ap (λ (m : ℕ). batchText m next ls) (sym (number-next n (omega (arith, p)))))
 
--- behind the first line, a line for each turn
-rest-most : (k : ℕ) (c : Cursor) (s : List ℕ) → Kept c s → c .begun ≡ true → length (restWithin k c s) ≤ longestLine * turns c s
-unfolding restWithin
-rest-most zero c s h b = omega arith
-rest-most (suc k) c s h b = by-end (ended c s) refl (rest-most k (piece c s .next) s)
-  where
-    by-end : (t : Bool) → ended c s ≡ t → (Kept (piece c s .next) s → piece c s .next .begun ≡ true → length (restWithin k (piece c s .next) s) ≤ longestLine * turns (piece c s .next) s)
-        → length (cond t [] (piece c s .text ++ restWithin k (piece c s .next) s)) ≤ longestLine * turns c s
-    by-end true e ih = omega arith
-    by-end false e ih = omega (arith, length-append (piece c s .text) (restWithin k (piece c s .next) s), later-text-most c s h b e, piece-fewer c s e, ih (piece-kept c s h e) (later-begun c s b))
+module _ (s : List ℕ) where
+  -- the lines of a script that its listing can have behind the first
+  abbrev counted : ℕ
+  counted = cond (leb (length s) 65535) (furtherLines s) 0
 
--- the turns that the first piece leaves: fewer than the script has bytes, and none where it is too long
-start-turns : (s : List ℕ) (o : Outcome) → Started s o → (length s - startPlace s (o .answer) ≤ length s - 1) × (length s - startPlace s (o .answer) ≤ 65534)
-start-turns s o (opened l e h d) =
-    let p : startPlace s (o .answer) ≡ behind 0 s = ap (λ (t : Bool). cond t (behind 0 s) (length s)) (eq-eqb (o .answer) 0 e) in
-    below-or-not 0 (length s) (λ some. omega (arith, p, l, past-fewer 0 s some)) (λ none. omega arith)
-start-turns s o (refused k n e) =
-    let p : startPlace s (o .answer) ≡ length s = ap (λ (t : Bool). cond t (behind 0 s) (length s)) (ne-eqb (o .answer) 0 (λ z. omega (arith, n, z, ap (λ (x : Outcome). x .answer) e))) in
-    omega (arith, p)
+  counted-few : (counted ≤ length s - 1) × (counted ≤ 65534)
+  counted-few = by-test (leb (length s) 65535) refl
+    where
+      by-test : (t : Bool) → leb (length s) 65535 ≡ t → (cond t (furtherLines s) 0 ≤ length s - 1) × (cond t (furtherLines s) 0 ≤ 65534)
+      by-test true e = omega (arith, further-few s, leb-true (length s) 65535 e)
+      by-test false e = omega arith
 
-listing-most : (s : List ℕ) → length (listing s) ≤ longestPiece + longestLine * (length s - startPlace s (startOutcome s .answer))
-unfolding piece
-listing-most s =
-    let o : Outcome = startOutcome s in
-    let next : firstPiece s .next ≡ startCursor s o = start-next s in
-    let start : Kept beginning s = not-begun-kept beginning s refl in
-    let kept : Kept (startCursor s o) s = subst (λ (c : Cursor). Kept c s) next (piece-kept beginning s start refl) in
-    omega (arith, ap length (sym (rest-beginning s) ∙ rest-piece beginning s refl), length-append (firstPiece s .text) (rest (firstPiece s .next) s), ap (λ (c : Cursor). length (rest c s)) next, piece-most beginning s start refl, rest-most (suc (length s)) (startCursor s o) s kept refl)
+  started-most : (o : Outcome) → Started s o → length (heading ++ openedText o (drop 1 (linesOf s))) ≤ longestPiece + longestLine * counted
+  unfolding textOf
+  started-most o (opened l e h d) =
+      let ls : List (List ℕ) = drop 1 (linesOf s) in
+      let first : List ℕ = boardText 0 0 (o .board) in
+      let text : openedText o ls ≡ first ++ textOf (laterLines 1 (o .board) ls) = ap (λ (t : Bool). cond t (textOf (openedLines o ls)) (refusedText (o .answer))) (eq-eqb (o .answer) 0 e) in
+      let few : counted ≡ length ls = ap (λ (t : Bool). cond t (length ls) 0) (le-leb (length s) 65535 l) in
+      omega (
+        arith,
+        length-append heading (openedText o ls),
+        ap length text,
+        length-append first (textOf (laterLines 1 (o .board) ls)),
+        length-append heading first,
+        ap length (first-text s o (opened l e h d)),
+        ap (λ (k : ℕ). length (heading ++ boardText 0 k (o .board))) e,
+        first-most s o (opened l e h d),
+        few,
+        ap length (later-batch 1 (o .board) ls (omega (arith, l, further-few s))),
+        batch-most 1 (o .board) ls (omega arith) h,
+      )
+  started-most o (refused k n e) =
+      let ls : List (List ℕ) = drop 1 (linesOf s) in
+      let text : openedText o ls ≡ refusedText k = ap (λ (x : Outcome). openedText x ls) e ∙ ap (λ (t : Bool). cond t (textOf (openedLines (refusedBy k) ls)) (refusedText k)) (ne-eqb k 0 (λ z. omega (arith, n, z))) in
+      omega (arith, ap (λ (t : List ℕ). length (heading ++ t)) text, ap (λ (p : Piece). length (p .text)) (refused-piece s o k n e), first-most s o (refused k n e))
+
+pub listing-bound-by-lines : ListingBoundByLines
+unfolding ListingBoundByLines boundByLines listing
+listing-bound-by-lines s = started-most s (startOutcome s) (starts s)
 
 pub listing-bound-by-length : ListingBoundByLength
-unfolding ListingBoundByLength
-listing-bound-by-length s = omega (arith, listing-most s, start-turns s (startOutcome s) (starts s) .0)
+unfolding ListingBoundByLines ListingBoundByLength boundByLines
+listing-bound-by-length s = omega (arith, listing-bound-by-lines s, counted-few s .0)
 
 pub listing-bound : ListingBound
-unfolding ListingBound
-listing-bound s = omega (arith, listing-most s, start-turns s (startOutcome s) (starts s) .1)
+unfolding ListingBoundByLines ListingBound boundByLines
+listing-bound s = omega (arith, listing-bound-by-lines s, counted-few s .1)

@@ -127,7 +127,7 @@ part-kept (suc k) c s room h = by-stop (stops c s room) refl (part-kept k (piece
     by-stop false e ih = ih (piece-kept c s h (or-left (ended c s) _ e))
 
 -- ---- pieces
-first-most : (s : List ℕ) (o : Outcome) → Started s o → length (openedPiece s o .text) ≤ longestPiece
+pub first-most : (s : List ℕ) (o : Outcome) → Started s o → length (openedPiece s o .text) ≤ longestPiece
 first-most s o (opened l e h d) =
     omega (arith, ap length (first-text s o (opened l e h d)), length-append heading (boardText 0 (o .answer) (o .board)), line-length 0 (o .answer) (o .board .debt) (stateWord (verdict (o .board))), ap digitCount e, ap digitCount d, word-most (verdict (o .board)), one-digit)
 first-most s o (refused k n e) =

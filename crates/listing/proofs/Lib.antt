@@ -3,6 +3,7 @@ pub mod PieceLaws
 pub mod LengthLaws
 pub mod ListedLaws
 pub mod BoundLaws
+pub mod FurtherLaws
 pub mod GatherLaws
 pub mod RowLaws
 pub mod TurnLaws

@@ -1,7 +1,10 @@
 -- How long a listing can be.
+use mathlib.Core.Bool.{cond}
 use mathlib.Core.List.{List}
 use Prim.Native.Nat.{ℕ, _+_, _-_, _*_, _≤_}
-use lib.ListN.{length}
+use lib.ListN.{length, drop}
+use lib.Dec.{leb}
+use Rattle.numbers.specs.Lines.{linesOf}
 use Rattle.listing.specs.Scripts.{listing}
 
 -- no piece of a listing is longer: the heading of 23 bytes, and a first line of 15
@@ -12,10 +15,21 @@ longestPiece = 38
 abbrev pub longestLine : ℕ
 longestLine = 37
 
--- a buffer for the listing of one script: each line behind the first takes at least a byte of the script
+-- the lines of a text behind its first
+abbrev pub furtherLines : List ℕ → ℕ
+furtherLines s = length (drop 1 (linesOf s))
+
+-- a buffer for the listing of one script, by its lines: the listing of a script that is too long is a refused line
+unfoldable pub boundByLines : List ℕ → ℕ
+boundByLines s = longestPiece + longestLine * cond (leb (length s) 65535) (furtherLines s) 0
+
+unfoldable pub ListingBoundByLines : Type 0
+ListingBoundByLines = (s : List ℕ) → length (listing s) ≤ boundByLines s
+
+-- by its length: each line behind the first takes at least a byte of the script
 unfoldable pub ListingBoundByLength : Type 0
 ListingBoundByLength = (s : List ℕ) → length (listing s) ≤ longestPiece + longestLine * (length s - 1)
 
--- a buffer for the listing of any script: one of 65,535 bytes has at most 65,534 lines behind its first, and the listing of a longer one is a refused line
+-- a buffer for the listing of any script: one of 65,535 bytes has at most 65,534 lines behind its first
 unfoldable pub ListingBound : Type 0
 ListingBound = (s : List ℕ) → length (listing s) ≤ longestPiece + longestLine * 65534

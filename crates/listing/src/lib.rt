@@ -1,4 +1,5 @@
 // The listing of a script, in parts and at once.
+mod bounds;
 mod cursors;
 mod gathering;
 mod parts;

@@ -12,7 +12,7 @@ ghost use Rattle.rules.specs.Sound.{sound};
 ghost use Rattle.listing.specs.Turns.{batchSize, Advances};
 
 // No line behind the first is longer.
-const LONGEST: usize = 37;
+pub(crate) const LONGEST: usize = 37;
 
 // Where a part has come to: the cursor's place, line number and board, and the place behind the last byte written.
 pub(crate) struct Progress {

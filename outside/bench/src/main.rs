@@ -1,6 +1,6 @@
 //! Times the proved code beside plain Rust, in one run: `bench PROGRAM PLAIN`, where the two are the programs to compare.
-//! `bench once WHAT UNITS SLOTS STEPS` does one piece of work once, for a count of its instructions, and
-//! `bench script BYTES` writes a script of that size.
+//! `bench once WHAT UNITS SLOTS STEPS` does one piece of work once, and `bench list SIDE BYTES TIMES` lists a script of
+//! that size as often, for a count of instructions; `bench script BYTES` writes such a script.
 
 mod library;
 mod lists;
@@ -92,6 +92,19 @@ fn listings() {
     }
 }
 
+/// Lists a script of so many bytes as often as said, for a count of instructions.
+fn list(side: &str, bytes: usize, times: usize) -> Option<()> {
+    let script = lists::script(bytes);
+    let mut out = vec![0; 65_536 * 40];
+    for _ in 0..times {
+        match side {
+            "proved" => compare::list(&script, &mut out).ok()?,
+            _ => reference::list_into(&script, &mut out).ok()?,
+        };
+    }
+    Some(())
+}
+
 /// Runs a program on a script in a file; what it writes is dropped.
 fn process(program: &str, script: &str) -> u64 {
     let input = File::open(script).expect("the script is there");
@@ -129,6 +142,10 @@ fn main() -> ExitCode {
             let numbers = (n.parse(), m.parse(), count.parse());
             let (Ok(n), Ok(m), Ok(count)) = numbers else { return ExitCode::FAILURE };
             once(what, n, m, count).map_or(ExitCode::FAILURE, |_| ExitCode::SUCCESS)
+        }
+        ["list", side, bytes, times] => {
+            let (Ok(bytes), Ok(times)) = (bytes.parse(), times.parse()) else { return ExitCode::FAILURE };
+            list(side, bytes, times).map_or(ExitCode::FAILURE, |()| ExitCode::SUCCESS)
         }
         ["script", bytes] => {
             let Ok(bytes) = bytes.parse() else { return ExitCode::FAILURE };

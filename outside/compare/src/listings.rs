@@ -2,6 +2,9 @@
 
 use reference::Record;
 
+/// What a buffer holds before a call.
+const MARK: u8 = 0xa5;
+
 /// What is wrong with the library's listing of a script, if anything.
 pub fn difference(script: &[u8], out: &mut Vec<u8>) -> Option<String> {
     let expected = reference::list(script);
@@ -9,16 +12,27 @@ pub fn difference(script: &[u8], out: &mut Vec<u8>) -> Option<String> {
     if length != expected.len() {
         return Some(format!("the length is {length}, not {}", expected.len()));
     }
-    // One byte too few is refused and touches nothing; bytes behind the listing stay as they were.
-    const MARK: u8 = 0xa5;
+    // One byte too few is refused and touches nothing.
     out.clear();
-    out.resize(length + 7, MARK);
+    out.resize(length, MARK);
     if compare::list(script, &mut out[..length - 1]) != Err(27) {
         return Some("a buffer that is one byte short is not refused by 27".into());
     }
     if out.iter().any(|&byte| byte != MARK) {
         return Some("a refused call wrote to the buffer".into());
     }
+    // An exact fit, for which the library counts the listing's bytes, and room for the longest lines, for which it does not.
+    let longest = 38 + 37 * script.iter().filter(|&&byte| byte == b'\n').count();
+    let rooms = [length, length.max(longest)];
+    let wrong = rooms.into_iter().find_map(|room| difference_in(room, script, &expected, out));
+    wrong.or_else(|| scripts::check_listing(script, &out[..length]).err())
+}
+
+/// What is wrong with the library's listing in a buffer of so many bytes, if anything.
+fn difference_in(room: usize, script: &[u8], expected: &[u8], out: &mut Vec<u8>) -> Option<String> {
+    let length = expected.len();
+    out.clear();
+    out.resize(room, MARK);
     match compare::list(script, out) {
         Err(number) => return Some(format!("the listing is refused by {number}")),
         Ok(count) if count != length => return Some(format!("the count is {count}, not {length}")),
@@ -28,13 +42,11 @@ pub fn difference(script: &[u8], out: &mut Vec<u8>) -> Option<String> {
         return Some(format!(
             "the listings differ\n--- library\n{}\n--- reference\n{}",
             String::from_utf8_lossy(&out[..length]),
-            String::from_utf8_lossy(&expected)
+            String::from_utf8_lossy(expected)
         ));
     }
-    if out[length..].iter().any(|&byte| byte != MARK) {
-        return Some("bytes behind the listing were written".into());
-    }
-    scripts::check_listing(script, &out[..length]).err()
+    let behind = out[length..].iter().any(|&byte| byte != MARK);
+    behind.then(|| "bytes behind the listing were written".into())
 }
 
 /// What is wrong with a line as the library reads it, or with the step as it writes it, if anything.

@@ -15,7 +15,7 @@ use Rattle.listing.proofs.whole.listing_length.Statement.{statement}
 use Rattle.listing.proofs.whole.listing_length.Tie as tie
 
 abbrev Inv-loop : tie.InvT-loop
-Inv-loop script part₀ c₀ n₀ part c n = (length part ≡ 4096) × Counting script c n
+Inv-loop script part₀ c₀ n₀ part c n = (length part ≡ 32768) × Counting script c n
 
 abbrev μ-loop : tie.MeasureT-loop
 μ-loop script part₀ c₀ n₀ part c n = turns c script
