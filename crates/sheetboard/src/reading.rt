@@ -1,0 +1,42 @@
+// The reading of the standard input into a buffer, where a read that fails is told from the end.
+use libc::STDIN_FILENO;
+ghost use Prim.Native.Nat.{_≤_};
+ghost use lib.ListN.{length};
+ghost use Rattle.sheetboard.specs.Input.{Within, ReadsOn};
+
+// What reading gave: so many bytes at the start of the buffer; or nothing, since a read failed, and errno says why.
+pub enum Input {
+    Bytes(usize),
+    Failed,
+}
+
+// One read, to behind the `at` bytes that were read before: where the bytes read then end, or that it failed. 0 bytes more are the end of the input.
+fn read_more(buf: &mut [u8], at: usize) -> Input
+    requires { ⌜ at ≤ length (now buf) ⌝ }
+    ensures { λ r. ⌜ ReadsOn at (now (buf .entry)) r (now (buf .exit)) ⌝ }
+{
+    let got = libc::read(STDIN_FILENO, &mut buf[at..]);
+    if got < 0 {
+        return Input::Failed;
+    }
+    let more = io::count(got, &buf[at..]);
+    Input::Bytes(at + more)
+}
+
+// Reads until the input ends, the buffer is full, or a read fails. A read may give less than what is still to come, as from a pipe.
+pub fn read_input(buf: &mut [u8]) -> Input
+    ensures { λ r. ⌜ Within 0 (length (now (buf .exit))) r ⌝ }
+{
+    let mut count: usize = 0;
+    while count < buf.len() {
+        let read = read_more(buf, count);
+        let Input::Bytes(behind) = read else {
+            return Input::Failed;
+        };
+        if behind == count {
+            return Input::Bytes(count);
+        }
+        count = behind;
+    }
+    Input::Bytes(count)
+}
