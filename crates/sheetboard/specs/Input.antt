@@ -1,10 +1,16 @@
 -- What the reading of the input says of its buffer. Which bytes it read no contract can say.
 use mathlib.Core.Path.{_≡_}
 use mathlib.Core.List.{List}
-use Prim.Native.Nat.{ℕ, _≤_}
+use Prim.Native.Nat.{ℕ, _+_, _-_, _≤_, min}
+use lib.IntN.{ℤ, pos, negsuc}
 use lib.ListN.{length, take}
 use Rattle.sheetboard.specs.declared.reading.Input.{Input}
 use Rattle.sheetboard.specs.declared.reading.Input.the-variants.{Bytes, Failed}
+
+-- what a read behind the first `at` bytes of a buffer has answered: a negative number is a failure, any other so many bytes more
+abbrev pub toldBy : ℕ → ℕ → ℤ → Input
+toldBy at room (pos k) = Bytes (at + min k (room - at))
+toldBy at room (negsuc k) = Failed
 
 -- the bytes read are at least and at most so many; of a failed reading nothing is said
 abbrev pub Within : ℕ → ℕ → Input → Type 0

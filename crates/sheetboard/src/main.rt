@@ -1,6 +1,6 @@
 // The program: reads a script from standard input, lists it in parts, and hands each part to standard output. Nothing of the rules is decided here.
-// Three lines are to be read, since no contract can say what passes between a process and its files: the call of `libc::read` (in reading.rt), that of
-// `io::write_all`, and the line of `main` that lists what was read.
+// What passes between a process and its files no contract can say, so four lines are to be read: the call of `libc::read` (in reading.rt), the call of
+// `list_read` in `main`, which lists what was read, the call of `hand_over`, which is handed the start of the buffer, and that of `io::write_all`.
 mod reading;
 
 use libc::STDOUT_FILENO;
@@ -27,7 +27,7 @@ struct Turn {
     cursor: Cursor,
 }
 
-// To be read: what is counted is what the output is handed.
+// What is counted is what the output is handed.
 fn hand_over(part: &[u8]) -> Handed
     ensures { λ r. ⌜ r .count ≡ length (now (part .entry)) ⌝ }
 {
@@ -97,8 +97,8 @@ fn list_read(read: Input, buf: &[u8]) -> Handed
     }
 }
 
-// The buffer has one byte more than a script may have, so reading stops once it is clear that the script is too long. What failed is told at once,
-// while errno still says why.
+// The buffer has one byte more than a script may have, so reading stops once it is clear that the script is too long. What failed is told before
+// any other call, since errno says why.
 fn main() {
     let mut input = io::large_buffer();
     let read = read_input(&mut input);

@@ -1,8 +1,9 @@
 // The reading of the standard input into a buffer, where a read that fails is told from the end.
 use libc::STDIN_FILENO;
+ghost use mathlib.Core.Path.{_≡_};
 ghost use Prim.Native.Nat.{_≤_};
 ghost use lib.ListN.{length};
-ghost use Rattle.sheetboard.specs.Input.{Within, ReadsOn};
+ghost use Rattle.sheetboard.specs.Input.{toldBy, Within, ReadsOn};
 
 // What reading gave: so many bytes at the start of the buffer; or nothing, since a read failed, and errno says why.
 pub enum Input {
@@ -10,12 +11,11 @@ pub enum Input {
     Failed,
 }
 
-// One read, to behind the `at` bytes that were read before: where the bytes read then end, or that it failed. 0 bytes more are the end of the input.
-fn read_more(buf: &mut [u8], at: usize) -> Input
+// What a read behind the `at` bytes that were read before has answered: where the bytes read now end, or that it failed.
+fn told(got: isize, buf: &[u8], at: usize) -> Input
     requires { ⌜ at ≤ length (now buf) ⌝ }
-    ensures { λ r. ⌜ ReadsOn at (now (buf .entry)) r (now (buf .exit)) ⌝ }
+    ensures { λ r. ⌜ r ≡ toldBy at (length (now (buf .entry))) got ⌝ }
 {
-    let got = libc::read(STDIN_FILENO, &mut buf[at..]);
     if got < 0 {
         return Input::Failed;
     }
@@ -23,7 +23,16 @@ fn read_more(buf: &mut [u8], at: usize) -> Input
     Input::Bytes(at + more)
 }
 
-// Reads until the input ends, the buffer is full, or a read fails. A read may give less than what is still to come, as from a pipe.
+// One read from the standard input, to behind the bytes that were read before.
+fn read_more(buf: &mut [u8], at: usize) -> Input
+    requires { ⌜ at ≤ length (now buf) ⌝ }
+    ensures { λ r. ⌜ ReadsOn at (now (buf .entry)) r (now (buf .exit)) ⌝ }
+{
+    let got = libc::read(STDIN_FILENO, &mut buf[at..]);
+    told(got, buf, at)
+}
+
+// Reads until the input ends, the buffer is full, or a read fails. A read may give less than is still to come, as from a pipe: only one of no bytes is the end.
 pub fn read_input(buf: &mut [u8]) -> Input
     ensures { λ r. ⌜ Within 0 (length (now (buf .exit))) r ⌝ }
 {

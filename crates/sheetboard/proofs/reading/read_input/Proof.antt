@@ -4,6 +4,8 @@ use native.Mathlib.Omega.{arith}
 use Prim.Native.Nat.{_-_, _≤_}
 use lib.ListN.{length}
 use borrow.Author.Needs.{needs}
+use Rattle.sheetboard.specs.Input.{Within}
+use Rattle.sheetboard.specs.declared.reading.Input.the-variants.{Bytes}
 use Rattle.sheetboard.proofs.InputLaws.{bytes-within}
 use Rattle.sheetboard.proofs.reading.read_input.Statement.{statement}
 use Rattle.sheetboard.proofs.reading.read_input.Tie as tie
@@ -38,17 +40,15 @@ same-length-2 c = search needs
 returns-2 : tie.Need-returns-2 Inv-loop μ-loop
 returns-2 c = search needs
 
+-- at a turn that read on: the bytes counted before it, those counted now, and the buffer's end
+reads-on : (c : tie.Else1 Inv-loop μ-loop) → Within (c .before .before .before .before .before .before .before .before .before .loop .count) (length (c .before .before .before .before .before .before .before .before .before .loop .buf)) (Bytes (c .before .before .read .given .0 .0))
+reads-on c = bytes-within (c .before .before .before .before .before .before .read-more .ensures .within) (c .before .before .read .given .1)
+
 loop-less : tie.Need-loop-less Inv-loop μ-loop
-loop-less c =
-    let read = c .before .before .before .before .before .before in
-    let within = bytes-within (read .read-more .ensures .within) (c .before .before .read .given .1) in
-    omega (arith, within)
+loop-less c = omega (arith, reads-on c)
 
 loop-again : tie.Need-loop-again Inv-loop μ-loop
-loop-again c =
-    let read = c .before .before .before .before .before .before in
-    let within = bytes-within (read .read-more .ensures .within) (c .before .before .read .given .1) in
-    (search needs, omega (arith, within))
+loop-again c = (search needs, omega (arith, reads-on c))
 
 same-length-3 : tie.Need-same-length-3 Inv-loop μ-loop
 same-length-3 c = search needs
