@@ -29,12 +29,17 @@ fn by_shell(line: &str) -> Command {
 }
 
 fn caught(mut command: Command) -> Command {
-    command.stdin(Stdio::null()).stdout(Stdio::piped()).stderr(Stdio::piped());
+    command
+        .stdin(Stdio::null())
+        .stdout(Stdio::piped())
+        .stderr(Stdio::piped());
     command
 }
 
 fn output(mut command: Command) -> Output {
-    command.output().expect("the program is built by `rt check sheetboard` and runs")
+    command
+        .output()
+        .expect("the program is built by `rt check sheetboard` and runs")
 }
 
 /// An input that holds a script.
@@ -54,14 +59,24 @@ fn closed_pipe() -> ChildStdin {
 
 /// Nothing is listed, one line on standard error says what failed and why, and the process ends by itself.
 fn assert_fails(output: Output, line: &str) {
-    assert_eq!(String::from_utf8_lossy(&output.stderr), format!("sheetboard: {line}\n"));
+    assert_eq!(
+        String::from_utf8_lossy(&output.stderr),
+        format!("sheetboard: {line}\n")
+    );
     assert_eq!(String::from_utf8_lossy(&output.stdout), "");
-    assert_eq!(output.status.code(), Some(0), "the language has no exit status");
+    assert_eq!(
+        output.status.code(),
+        Some(0),
+        "the language has no exit status"
+    );
 }
 
 fn assert_lists(output: Output, script: &[u8]) {
     assert_eq!(String::from_utf8_lossy(&output.stderr), "");
-    assert_eq!(String::from_utf8_lossy(&output.stdout), String::from_utf8_lossy(&reference::list(script)));
+    assert_eq!(
+        String::from_utf8_lossy(&output.stdout),
+        String::from_utf8_lossy(&reference::list(script))
+    );
 }
 
 #[test]
@@ -73,7 +88,10 @@ fn a_directory_as_input() {
 
 #[test]
 fn a_closed_input() {
-    assert_fails(output(by_shell("exec \"$0\" <&-")), "reading standard input: Bad file descriptor");
+    assert_fails(
+        output(by_shell("exec \"$0\" <&-")),
+        "reading standard input: Bad file descriptor",
+    );
 }
 
 /// A socket is reset where its other end is closed with bytes that were not read: the lines before that were read.
@@ -85,21 +103,32 @@ fn an_input_that_breaks_off() {
     drop(ours);
     let mut command = program();
     command.stdin(OwnedFd::from(input));
-    assert_fails(output(command), "reading standard input: Connection reset by peer");
+    assert_fails(
+        output(command),
+        "reading standard input: Connection reset by peer",
+    );
 }
 
 #[test]
 fn an_output_that_is_full() {
     let mut command = program();
-    command.stdin(script()).stdout(OpenOptions::new().write(true).open("/dev/full").unwrap());
-    assert_fails(output(command), "writing standard output: No space left on device");
+    command
+        .stdin(script())
+        .stdout(OpenOptions::new().write(true).open("/dev/full").unwrap());
+    assert_fails(
+        output(command),
+        "writing standard output: No space left on device",
+    );
 }
 
 #[test]
 fn a_closed_output() {
     let mut command = by_shell("exec \"$0\" >&-");
     command.stdin(script());
-    assert_fails(output(command), "writing standard output: Bad file descriptor");
+    assert_fails(
+        output(command),
+        "writing standard output: Bad file descriptor",
+    );
 }
 
 #[test]
@@ -150,8 +179,16 @@ fn an_input_that_is_too_long() {
     let mut pipe = child.stdin.take().unwrap();
     pipe.write_all(&long).unwrap();
     let mut listed = Vec::new();
-    child.stdout.take().unwrap().read_to_end(&mut listed).unwrap();
-    assert_eq!(String::from_utf8_lossy(&listed), String::from_utf8_lossy(&reference::list(&long)));
+    child
+        .stdout
+        .take()
+        .unwrap()
+        .read_to_end(&mut listed)
+        .unwrap();
+    assert_eq!(
+        String::from_utf8_lossy(&listed),
+        String::from_utf8_lossy(&reference::list(&long))
+    );
     drop(pipe);
     assert!(child.wait().unwrap().success());
 }
