@@ -6,7 +6,7 @@ ghost use lib.ListN.{length};
 ghost use Rattle.sheetboard.specs.Input.{toldBy, Within, ReadsOn};
 
 // What reading gave: so many bytes at the start of the buffer; or nothing, since a read failed, and errno says why.
-pub enum Input {
+pub(crate) enum Input {
     Bytes(usize),
     Failed,
 }
@@ -33,7 +33,7 @@ fn read_more(buf: &mut [u8], at: usize) -> Input
 }
 
 // Reads until the input ends, the buffer is full, or a read fails. A read may give less than is still to come, as from a pipe: only one of no bytes is the end.
-pub fn read_input(buf: &mut [u8]) -> Input
+pub(crate) fn read_input(buf: &mut [u8]) -> Input
     ensures { λ r. ⌜ Within 0 (length (now (buf .exit))) r ⌝ }
 {
     let mut count: usize = 0;
