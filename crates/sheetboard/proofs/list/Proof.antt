@@ -2,15 +2,15 @@
 use mathlib.Core.Path.{_≡_, refl, sym, _∙_}
 use mathlib.Core.Bool.{false}
 use mathlib.Core.List.{List}
-use Prim.Native.Nat.{ℕ, _≤_}
+use Prim.Native.Nat.{ℕ}
 use native.Mathlib.Omega.{arith}
 use lib.ListN.{length}
 use borrow.Author.Needs.{needs}
 use borrow.Author.Tests.{not-true, not-false}
 use Rattle.rules.proofs.FactLaws.{true-not-false}
-use Rattle.listing.specs.Parts.{ended, longestPiece}
+use Rattle.listing.specs.Parts.{ended}
 use Rattle.listing.proofs.PieceLaws.{turns}
-use Rattle.sheetboard.proofs.OutputLaws.{Handing, handing-begins, handing-ends, handing-goes, handing-fits, handing-most, handing-less}
+use Rattle.sheetboard.proofs.OutputLaws.{Handing, handing-begins, handing-ends, handing-goes, handing-fits, handing-less}
 use Rattle.sheetboard.proofs.list.Statement.{statement}
 use Rattle.sheetboard.proofs.list.Tie as tie
 
@@ -30,8 +30,8 @@ more c = sym (c .before .before .before .is-ended .ensures) ∙ not-true _ (c .b
 abbrev buffer : tie.After-write-part Inv-loop μ-loop → List ℕ
 buffer c = c .before .before .before .before .loop .out
 
-room : (c : tie.After-write-part Inv-loop μ-loop) → longestPiece ≤ length (buffer c)
-room c = omega (arith, c .before .before .before .before .loop .inv .0)
+room : (c : tie.After-write-part Inv-loop μ-loop) → length (buffer c) ≡ 32768
+room c = c .before .before .before .before .loop .inv .0
 
 beginning-requires : tie.Need-beginning-requires Inv-loop μ-loop
 beginning-requires c κs = search needs
@@ -56,7 +56,10 @@ add-count c =
 returns : tie.Need-returns Inv-loop μ-loop
 returns c =
     let at = c .before .before .before in
-    (handing-most (state at) (more at) (buffer at) (room at) (at .write-part .ensures), λ e. absurd (true-not-false (sym e ∙ not-true _ (c .if2 .taken))))
+    record {
+      follows = handing-goes (state at) (more at) (buffer at) (room at) (at .write-part .ensures) .follows;
+      all = λ e. absurd (true-not-false (sym e ∙ not-true _ (c .if2 .taken)));
+    }
 
 loop-less : tie.Need-loop-less Inv-loop μ-loop
 loop-less c =
@@ -72,7 +75,7 @@ returns-2 : tie.Need-returns-2 Inv-loop μ-loop
 returns-2 c =
     let at-loop = c .before .before in
     let all = handing-ends (at-loop .before .before .before .args .script .now) (at-loop .loop .c) (at-loop .loop .count) (at-loop .loop .inv .1) (sym (c .before .is-ended .ensures) ∙ not-false _ (c .if1 .left)) in
-    (omega (arith, all), λ e. all)
+    record { follows = at-loop .loop .inv .1 .follows; all = λ e. all }
 
 pub list-spec : {M : Type 1} → statement M
 list-spec =
