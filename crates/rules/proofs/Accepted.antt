@@ -29,7 +29,7 @@ use Rattle.rules.specs.declared.Outcome.{Outcome}
 pub place-numbered : (n m : ℕ) (r : StepRecord) (a : Action) → Numbered (placeChecks n m r a)
 place-numbered n m r a = of-letters (letters a)
   where
-    of-place : (i : ℕ) (p : Place) (cs : List Check) → Numbered cs → Numbered (placeCheck n m i p ∷ cs)
+    of-place : (i : ℕ) (p : Place) (cs : List Check) → Numbered cs → Numbered (placeCheck n m i p ++ cs)
     of-place i amongUnits cs h = (omega arith, h)
     of-place i amongSlots cs h = (omega arith, h)
 

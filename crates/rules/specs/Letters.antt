@@ -1,7 +1,7 @@
 -- The letters of each step, in the order of its bracket and of its script line; and what follows from them: where they must lie, which
 -- of a record's fields are read, and which places a step may change.
 use mathlib.Core.Bool.{Bool, true, false, cond}
-use mathlib.Core.List.{List, [], _∷_}
+use mathlib.Core.List.{List, [], _∷_, _++_}
 use Prim.Native.Nat.{ℕ, suc}
 use lib.ListN.{getD}
 use Rattle.rules.specs.Facts.{Check, check, below}
@@ -16,7 +16,7 @@ pub data Field : Type 0 where
   otherField : Field
   slotField : Field
 
--- where a letter must lie: among the units in use (13), among the slots in use (14)
+-- where a letter must lie, and the check of it: among the units in use (13), among the slots in use (14)
 pub data Place : Type 0 where
   amongUnits : Place
   amongSlots : Place
@@ -60,13 +60,13 @@ put r otherField x = record { kind = r .kind; unit = r .unit; other = x; slot = 
 put r slotField x = record { kind = r .kind; unit = r .unit; other = r .other; slot = x }
 
 -- ---- the head of a bracket: 13 unit not below n, 14 slot not below M
-abbrev pub placeCheck : ℕ → ℕ → ℕ → Place → Check
-placeCheck n m i amongUnits = check (below i n) 13
-placeCheck n m i amongSlots = check (below i m) 14
+abbrev pub placeCheck : ℕ → ℕ → ℕ → Place → List Check
+placeCheck n m i amongUnits = check (below i n) 13 ∷ []
+placeCheck n m i amongSlots = check (below i m) 14 ∷ []
 
 abbrev pub checksOf : ℕ → ℕ → StepRecord → List Letter → List Check
 checksOf n m r [] = []
-checksOf n m r (l ∷ ls) = placeCheck n m (read r (l .field)) (l .place) ∷ checksOf n m r ls
+checksOf n m r (l ∷ ls) = placeCheck n m (read r (l .field)) (l .place) ++ checksOf n m r ls
 
 abbrev pub placeChecks : ℕ → ℕ → StepRecord → Action → List Check
 placeChecks n m r a = checksOf n m r (letters a)
