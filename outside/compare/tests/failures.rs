@@ -7,6 +7,7 @@ use std::os::fd::OwnedFd;
 use std::os::unix::net::{UnixDatagram, UnixStream};
 use std::os::unix::process::ExitStatusExt;
 use std::process::{ChildStdin, Command, Output, Stdio};
+use std::sync::{Mutex, MutexGuard, PoisonError};
 use std::time::Duration;
 
 const PROGRAM: &str = concat!(env!("CARGO_MANIFEST_DIR"), "/../../target/bin/sheetboard");
@@ -14,6 +15,13 @@ const SCRIPT: &[u8] = b"board\t2\t1\t0\nstart\t0\nrest\t0\n";
 /// Within the script's second line.
 const CUT: usize = 15;
 const BROKEN_PIPE: i32 = 13;
+
+/// One test at a time: a process that is being started holds for a moment what is open in this one, and with it the ends
+/// of pipes that another test has closed.
+fn alone() -> MutexGuard<'static, ()> {
+    static ALONE: Mutex<()> = Mutex::new(());
+    ALONE.lock().unwrap_or_else(PoisonError::into_inner)
+}
 
 /// The program on an empty input, with its outputs caught, unless a test says otherwise. A signal does by default what
 /// it does in a new process: the standard library sees to that for a broken pipe.
@@ -81,6 +89,7 @@ fn assert_lists(output: Output, script: &[u8]) {
 
 #[test]
 fn a_directory_as_input() {
+    let _alone = alone();
     let mut command = program();
     command.stdin(File::open("/").unwrap());
     assert_fails(output(command), "reading standard input: Is a directory");
@@ -88,6 +97,7 @@ fn a_directory_as_input() {
 
 #[test]
 fn a_closed_input() {
+    let _alone = alone();
     assert_fails(
         output(by_shell("exec \"$0\" <&-")),
         "reading standard input: Bad file descriptor",
@@ -97,6 +107,7 @@ fn a_closed_input() {
 /// A socket is reset where its other end is closed with bytes that were not read: the lines before that were read.
 #[test]
 fn an_input_that_breaks_off() {
+    let _alone = alone();
     let (mut input, mut ours) = UnixStream::pair().unwrap();
     input.write_all(b"never read").unwrap();
     ours.write_all(SCRIPT).unwrap();
@@ -111,6 +122,7 @@ fn an_input_that_breaks_off() {
 
 #[test]
 fn an_output_that_is_full() {
+    let _alone = alone();
     let mut command = program();
     command
         .stdin(script())
@@ -123,6 +135,7 @@ fn an_output_that_is_full() {
 
 #[test]
 fn a_closed_output() {
+    let _alone = alone();
     let mut command = by_shell("exec \"$0\" >&-");
     command.stdin(script());
     assert_fails(
@@ -133,6 +146,7 @@ fn a_closed_output() {
 
 #[test]
 fn a_closed_pipe_as_output() {
+    let _alone = alone();
     let mut command = by_shell("trap '' PIPE; exec \"$0\"");
     command.stdin(script()).stdout(closed_pipe());
     assert_fails(output(command), "writing standard output: Broken pipe");
@@ -141,6 +155,7 @@ fn a_closed_pipe_as_output() {
 /// By default the signal ends a process that writes to a closed pipe, before it can say anything.
 #[test]
 fn a_closed_pipe_as_output_by_default() {
+    let _alone = alone();
     let mut command = program();
     command.stdin(script()).stdout(closed_pipe());
     let output = output(command);
@@ -150,6 +165,7 @@ fn a_closed_pipe_as_output_by_default() {
 
 #[test]
 fn an_input_that_pauses_within_a_line() {
+    let _alone = alone();
     let mut child = program().stdin(Stdio::piped()).spawn().unwrap();
     let mut pipe = child.stdin.take().unwrap();
     pipe.write_all(&SCRIPT[..CUT]).unwrap();
@@ -162,6 +178,7 @@ fn an_input_that_pauses_within_a_line() {
 /// A read gives one datagram, however large the buffer is, and an empty one is the end: no pause is needed.
 #[test]
 fn an_input_in_short_reads() {
+    let _alone = alone();
     let (input, ours) = UnixDatagram::pair().unwrap();
     for piece in [&SCRIPT[..1], &SCRIPT[1..CUT], &SCRIPT[CUT..], b""] {
         ours.send(piece).unwrap();
@@ -174,6 +191,7 @@ fn an_input_in_short_reads() {
 /// One byte more than a script may have is enough to refuse it: its end is not waited for.
 #[test]
 fn an_input_that_is_too_long() {
+    let _alone = alone();
     let long = vec![b'0'; reference::SCRIPT_LIMIT + 1];
     let mut child = program().stdin(Stdio::piped()).spawn().unwrap();
     let mut pipe = child.stdin.take().unwrap();
