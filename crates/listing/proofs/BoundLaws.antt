@@ -13,7 +13,7 @@ use Rattle.rules.specs.declared.Outcome.{Outcome}
 use Rattle.numbers.specs.Lines.{linesOf}
 use Rattle.texts.specs.Texts.{heading, boardText, refusedText}
 use Rattle.listing.specs.Scripts.{laterOutcome, startOutcome, textOf, laterLines, openedLines, openedText, listing}
-use Rattle.listing.specs.Bounds.{longestPiece, longestLine, furtherLines, boundByLines, ListingBoundByLines, ListingBoundByLength, ListingBound}
+use Rattle.listing.specs.Bounds.{longestPiece, longestLine, furtherLines, furtherListed, boundByLines, ListingBoundByLines, ListingBoundByLength, ListingBound}
 use Rattle.listing.specs.Parts.{Piece}
 use Rattle.listing.proofs.StartLaws.{Started, opened, refused, starts, first-text, refused-piece}
 use Rattle.listing.proofs.PieceLaws.{number-next}
@@ -31,24 +31,20 @@ later-batch n b (l ∷ ls) p =
     (later-batch (suc n) next ls (omega (arith, p)) ∙ ap (λ (m : ℕ). batchText m next ls) (sym (number-next n (omega (arith, p)))))
 
 module _ (s : List ℕ) where
-  -- the lines of a script that its listing can have behind the first
-  abbrev counted : ℕ
-  counted = cond (leb (length s) 65535) (furtherLines s) 0
-
-  counted-few : (counted ≤ length s - 1) × (counted ≤ 65534)
-  counted-few = by-test (leb (length s) 65535) refl
+  listed-few : (furtherListed s ≤ length s - 1) × (furtherListed s ≤ 65534)
+  listed-few = by-test (leb (length s) 65535) refl
     where
       by-test : (t : Bool) → leb (length s) 65535 ≡ t → (cond t (furtherLines s) 0 ≤ length s - 1) × (cond t (furtherLines s) 0 ≤ 65534)
       by-test true e = omega (arith, further-few s, leb-true (length s) 65535 e)
       by-test false e = omega arith
 
-  started-most : (o : Outcome) → Started s o → length (heading ++ openedText o (drop 1 (linesOf s))) ≤ longestPiece + longestLine * counted
+  started-most : (o : Outcome) → Started s o → length (heading ++ openedText o (drop 1 (linesOf s))) ≤ longestPiece + longestLine * furtherListed s
   unfolding textOf
   started-most o (opened l e h d) =
       let ls : List (List ℕ) = drop 1 (linesOf s) in
       let first : List ℕ = boardText 0 0 (o .board) in
       let text : openedText o ls ≡ first ++ textOf (laterLines 1 (o .board) ls) = ap (λ (t : Bool). cond t (textOf (openedLines o ls)) (refusedText (o .answer))) (eq-eqb (o .answer) 0 e) in
-      let few : counted ≡ length ls = ap (λ (t : Bool). cond t (length ls) 0) (le-leb (length s) 65535 l) in
+      let few : furtherListed s ≡ length ls = ap (λ (t : Bool). cond t (length ls) 0) (le-leb (length s) 65535 l) in
       omega (
         arith,
         length-append heading (openedText o ls),
@@ -73,8 +69,8 @@ listing-bound-by-lines s = started-most s (startOutcome s) (starts s)
 
 pub listing-bound-by-length : ListingBoundByLength
 unfolding ListingBoundByLines ListingBoundByLength boundByLines
-listing-bound-by-length s = omega (arith, listing-bound-by-lines s, counted-few s .0)
+listing-bound-by-length s = omega (arith, listing-bound-by-lines s, listed-few s .0)
 
 pub listing-bound : ListingBound
 unfolding ListingBoundByLines ListingBound boundByLines
-listing-bound s = omega (arith, listing-bound-by-lines s, counted-few s .1)
+listing-bound s = omega (arith, listing-bound-by-lines s, listed-few s .1)

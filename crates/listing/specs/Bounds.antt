@@ -19,9 +19,13 @@ longestLine = 37
 abbrev pub furtherLines : List ℕ → ℕ
 furtherLines s = length (drop 1 (linesOf s))
 
--- a buffer for the listing of one script, by its lines: the listing of a script that is too long is a refused line
+-- those that a listing can have lines for: none where the script is too long, since its listing is a refused line
+abbrev pub furtherListed : List ℕ → ℕ
+furtherListed s = cond (leb (length s) 65535) (furtherLines s) 0
+
+-- a buffer for the listing of one script, by its lines
 unfoldable pub boundByLines : List ℕ → ℕ
-boundByLines s = longestPiece + longestLine * cond (leb (length s) 65535) (furtherLines s) 0
+boundByLines s = longestPiece + longestLine * furtherListed s
 
 unfoldable pub ListingBoundByLines : Type 0
 ListingBoundByLines = (s : List ℕ) → length (listing s) ≤ boundByLines s

@@ -1,4 +1,4 @@
--- `whole::list_all` meets its contract: the length tells whether the listing fits, and then one part holds it.
+-- `whole::list_all` meets its contract: where the listing fits, one part holds it.
 use mathlib.Core.Path.{refl, sym, _∙_}
 use Prim.Native.Nat.{_<_}
 use native.Mathlib.Omega.{arith}
