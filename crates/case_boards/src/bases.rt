@@ -47,8 +47,8 @@ const SUSPENDED: [[u16; 4]; 10] = [
     [5, 3, 0, 0], // rest 3
 ];
 
-// Sends that leave a unit of weight 1,024 with weight 1.
-const SENDS: usize = 10;
+// Sends that leave a unit of weight 16,384 with weight 1: 15 of 1,024, then ten halvings.
+const SENDS: usize = 25;
 
 fn opened() -> Board {
     board::open(4, 2, &[0, 0, 1, 2]).board

@@ -74,6 +74,6 @@ pub(crate) fn all() {
     let mut b = run(b"refusals in the list", fresh, refusals(), 17, 17);
     let rest = rest_of_it();
     on_from(b, rest);
-    b.debt = 1023;
+    b.debt = 16383;
     not_sound(b, rest);
 }

@@ -1,7 +1,7 @@
 -- Each step's change fits: a lemma for each action, and with them that a step keeps a sound board sound.
 use mathlib.Core.Path.{_≡_, refl, sym, ap, subst, _∙_}
 use mathlib.Core.Bool.{Bool, true, false, cond}
-use Prim.Native.Nat.{ℕ, _+_, _-_, _/_, _≤_, _<_}
+use Prim.Native.Nat.{ℕ, _+_, _-_, _≤_, _<_}
 use native.Mathlib.Omega.{arith}
 use lib.Dec.{leb}
 use borrow.Author.Tests.{leb-true, eq-eqb, ne-eqb}
@@ -27,13 +27,21 @@ use Rattle.rules.specs.declared.Board.{Board}
 use Rattle.rules.specs.declared.StepRecord.{StepRecord}
 use Rattle.rules.specs.declared.Outcome.{Outcome}
 
+-- a weight w splits: its share g is at least 1 and leaves at least 1
+abbrev Splits : ℕ → ℕ → Type 0
+Splits w g = (1 ≤ g) × (g + 1 ≤ w)
+
+-- one share from a least weight on, another below it
+from-least : {least g h : ℕ} (w : ℕ) → (least ≤ w → Splits w g) → Splits w h → Splits w (cond (leb least w) g h)
+from-least {least} {g} {h} w above below = by-test (leb least w) refl
+  where
+    by-test : (t : Bool) → leb least w ≡ t → Splits w (cond t g h)
+    by-test true e = above (leb-true least w e)
+    by-test false e = below
+
 -- a share of a weight of at least 2 is at least 1 and leaves at least 1
 pub share-part : (w : ℕ) → 2 ≤ w → (1 ≤ share w) × (share w + 1 ≤ w)
-share-part w l = by-test (leb 2048 w) refl
-  where
-    by-test : (t : Bool) → leb 2048 w ≡ t → (1 ≤ cond t 1024 (w / 2)) × (cond t 1024 (w / 2) + 1 ≤ w)
-    by-test true e = omega (arith, leb-true 2048 w e)
-    by-test false e = omega (arith, l)
+share-part w l = from-least w (λ m. omega (arith, m)) (from-least w (λ m. omega (arith, m)) (omega (arith, l)))
 
 -- ---- the steps
 module _ (b : Board) (r : StepRecord) (h : Sound b) where

@@ -58,22 +58,24 @@ abbrev pub AllRight : List Row → Type 0
 AllRight [] = Unit {0}
 AllRight (row ∷ rows) = Right row × AllRight rows
 
--- unit 1 of two gets 1,024 and sends ten times, which leaves it weight 1
+-- unit 1 of three gets 16,384 and sends 1,024 of it on to unit 2, which sends ten times: that leaves it weight 1
 abbrev pub toWeightOne : List StepRecord → List StepRecord
 toWeightOne more =
     start 0
     ∷ send 0 1 0
     ∷ deliver 0
-    ∷ send 1 0 0
-    ∷ send 1 0 1
-    ∷ send 1 0 2
-    ∷ send 1 0 3
-    ∷ send 1 0 4
-    ∷ send 1 0 5
-    ∷ send 1 0 6
-    ∷ send 1 0 7
-    ∷ send 1 0 8
-    ∷ send 1 0 9
+    ∷ send 1 2 0
+    ∷ deliver 0
+    ∷ send 2 0 0
+    ∷ send 2 0 1
+    ∷ send 2 0 2
+    ∷ send 2 0 3
+    ∷ send 2 0 4
+    ∷ send 2 0 5
+    ∷ send 2 0 6
+    ∷ send 2 0 7
+    ∷ send 2 0 8
+    ∷ send 2 0 9
     ∷ more
 
 abbrev pub allAccepted : ℕ → List ℕ → List ℕ
@@ -94,12 +96,15 @@ rows =
     ∷ shares 2048 1024
     ∷ shares 2050 1024
     ∷ shares 4095 1024
-    ∷ shares 16777216 1024
-    ∷ runs 11 0 (0 ∷ []) (toWeightOne (send 1 0 10 ∷ [])) (allAccepted 13 (33 ∷ [])) Working
+    ∷ shares 1048575 1024
+    ∷ shares 1048576 16384
+    ∷ shares 1048577 16384
+    ∷ shares 16777216 16384
+    ∷ runs 11 0 (0 ∷ 1 ∷ []) (toWeightOne (send 2 0 10 ∷ [])) (allAccepted 15 (33 ∷ [])) Working
     ∷ runs 1 0 [] (start 0 ∷ start 0 ∷ []) (0 ∷ 37 ∷ []) Working
     ∷ runs 1 0 (0 ∷ []) (start 0 ∷ send 0 1 0 ∷ deliver 0 ∷ rest 1 ∷ release 1 0 ∷ []) (allAccepted 5 []) Working
     ∷ runs 1 0 [] (start 0 ∷ rest 0 ∷ []) (0 ∷ 0 ∷ []) Finished
-    ∷ runs 11 0 (0 ∷ []) (toWeightOne (request 1 10 ∷ rest 1 ∷ [])) (allAccepted 14 (32 ∷ [])) Working
+    ∷ runs 11 0 (0 ∷ 1 ∷ []) (toWeightOne (request 2 10 ∷ rest 2 ∷ [])) (allAccepted 16 (32 ∷ [])) Working
     ∷ opens 1 0 (1 ∷ []) 12
     ∷ runs 2 1 (0 ∷ []) wholeCase (0 ∷ 0 ∷ 0 ∷ 0 ∷ 0 ∷ 40 ∷ 0 ∷ 0 ∷ 0 ∷ []) Finished
     ∷ []

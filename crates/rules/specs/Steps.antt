@@ -25,9 +25,9 @@ use Rattle.rules.specs.declared.Shared.{Shared}
 use Rattle.rules.specs.declared.Change.{Change}
 use Rattle.rules.specs.declared.Outcome.{Outcome}
 
--- share, the rules' own term: 2^10 if W is at least 2^11, else half of W rounded down
+-- share, the rules' own term: 2^14 if W is at least 2^20 (M-100), else 2^10 if W is at least 2^11, else half of W rounded down
 abbrev pub share : ℕ → ℕ
-share w = cond (leb 2048 w) 1024 (w / 2)
+share w = cond (leb 1048576 w) 16384 (cond (leb 2048 w) 1024 (w / 2))
 
 -- a unit with another weight
 abbrev pub withWeight : UnitRecord → ℕ → UnitRecord

@@ -171,22 +171,29 @@ impl State {
 }
 
 impl UnitRecord {
-    // Gives a share and hands back itself with what it keeps. Total: of weight 0 and 1 the share is 0 by the same halving.
+    // Gives a share and hands back itself with what it keeps: 2^14 from 2^20 on (M-100), 2^10 from 2^11 on, else half. Total: of weight 0 and 1 the share is 0 by the same halving.
     pub fn share(mut self) -> Shared
         ensures { λ r. ⌜ r ≡ shared self ⌝ }
     {
         let w = self.weight;
-        if w < 2048 {
-            self.weight = w - w / 2;
+        if 1048576 <= w {
+            self.weight = w - 16384;
             return Shared {
                 unit: self,
-                given: w / 2,
+                given: 16384,
             };
         }
-        self.weight = w - 1024;
+        if 2048 <= w {
+            self.weight = w - 1024;
+            return Shared {
+                unit: self,
+                given: 1024,
+            };
+        }
+        self.weight = w - w / 2;
         Shared {
             unit: self,
-            given: 1024,
+            given: w / 2,
         }
     }
 }

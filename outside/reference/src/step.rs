@@ -59,12 +59,14 @@ impl Step {
     }
 }
 
-/// The part of a weight that a send gives away. [33]
+/// The part of a weight that a send gives away: the scope document's share,
+/// but for weights from 2^20 on, which give 2^14 (M-100). [33]
 pub fn share(weight: u64) -> Result<u64, Refusal> {
     match weight {
         0 | 1 => Err(WEIGHT_ONE),
         2..=2047 => Ok(weight / 2),
-        2048.. => Ok(1024),
+        2048..=1_048_575 => Ok(1024),
+        1_048_576.. => Ok(16_384),
     }
 }
 

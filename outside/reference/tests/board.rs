@@ -9,7 +9,8 @@ fn busy() -> Board {
     let (mut board, answer) = Board::open(4, 2, &[0, 0, 1, 2]);
     assert_eq!(answer, 0);
     let mut steps = vec![Step::start(1), Step::send(1, 2, 0), Step::deliver(0)];
-    for _ in 0..10 {
+    // From 16,384 on: 15 shares of 1,024, then ten halves.
+    for _ in 0..25 {
         steps.extend([Step::send(2, 3, 0), Step::deliver(0)]);
     }
     steps.extend([

@@ -34,12 +34,12 @@ fn whole_case() {
         0|0|0|finished\n\
         1|0|16777216|working\n\
         2|0|16777216|working\n\
-        3|0|1024|working\n\
-        4|0|1024|working\n\
-        5|0|1024|working\n\
-        6|40|1024|working\n\
-        7|0|1024|working\n\
-        8|0|1024|working\n\
+        3|0|16384|working\n\
+        4|0|16384|working\n\
+        5|0|16384|working\n\
+        6|40|16384|working\n\
+        7|0|16384|working\n\
+        8|0|16384|working\n\
         9|0|0|finished\n"
         .replace('|', "\t");
     assert_eq!(listing(script.as_bytes()), expected);

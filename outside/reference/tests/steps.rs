@@ -31,7 +31,8 @@ fn mixed() -> Board {
     take(&mut board, &[Step::start(1)]);
     for poor in [2, 3] {
         take(&mut board, &[Step::send(1, poor, 0), Step::deliver(0)]);
-        for _ in 0..10 {
+        // From 16,384 on: 15 shares of 1,024, then ten halves.
+        for _ in 0..25 {
             take(&mut board, &[Step::send(poor, 1, 0), Step::deliver(0)]);
         }
         assert_eq!(board.units[usize::from(poor)].weight, 1);
@@ -60,8 +61,13 @@ fn shares() {
         (3, 1),
         (2_047, 1_023),
         (2_048, 1_024),
-        (1 << 24, 1_024),
-        (u64::MAX, 1_024),
+        (2_050, 1_024),
+        (4_095, 1_024),
+        ((1 << 20) - 1, 1_024),
+        (1 << 20, 16_384),
+        ((1 << 20) + 1, 16_384),
+        (1 << 24, 16_384),
+        (u64::MAX, 16_384),
     ] {
         assert_eq!(share(weight), Ok(given));
     }
@@ -114,7 +120,7 @@ fn request_refused() {
     refuse(&board, Step::request(2, 1), SLOT_FILLED);
     // Work for the suspended unit: 32 still comes before 41.
     take(&mut board, &[Step::send(1, 3, 2), Step::deliver(2)]);
-    assert_eq!(board.units[3].weight, 1_025);
+    assert_eq!(board.units[3].weight, 16_385);
     refuse(&board, Step::request(3, 2), SUSPENDED);
 }
 
@@ -253,18 +259,18 @@ fn start_and_send() {
     let mut board = open(2, 3, &[0]);
     take(&mut board, &[Step::start(1), Step::send(1, 0, 1)]);
     assert_eq!(board.debt, 1 << 24);
-    assert_eq!(board.units[1].weight, (1 << 24) - 1_024);
+    assert_eq!(board.units[1].weight, (1 << 24) - 16_384);
     assert_eq!(board.units[1].state, State::Active);
     let work = Slot {
         kind: Kind::Work,
         from: 1,
         to: 0,
-        weight: 1_024,
+        weight: 16_384,
     };
     assert_eq!(board.slots[1], work);
     // A unit may send to itself.
     take(&mut board, &[Step::send(1, 1, 0), Step::deliver(0)]);
-    assert_eq!(board.units[1].weight, (1 << 24) - 1_024);
+    assert_eq!(board.units[1].weight, (1 << 24) - 16_384);
     assert_eq!(board.slots[0], Slot::BLANK);
 }
 
@@ -301,11 +307,11 @@ fn request_grant_and_supply() {
 #[test]
 fn work_wakes_a_waiting_unit_with_its_weight() {
     let mut board = mixed();
-    assert_eq!(board.units[4].weight, 1_024);
+    assert_eq!(board.units[4].weight, 16_384);
     take(&mut board, &[Step::send(1, 4, 2), Step::deliver(2)]);
     let unit = Unit {
         state: State::Active,
-        weight: 2_048,
+        weight: 32_768,
         countdown: 0,
         suspended: false,
     };
@@ -335,7 +341,7 @@ fn returns() {
         kind: Kind::Return,
         from: 3,
         to: 2,
-        weight: (1 << 24) - 1_024,
+        weight: (1 << 24) - 16_384,
     };
     assert_eq!(board.slots[0], back);
     // Into a waiting unit: the countdown begins anew, the debt stays.
@@ -407,11 +413,28 @@ fn one_unit_finishes_on_rest() {
 fn many_sends() {
     let mut board = open(1, 0, &[0]);
     take(&mut board, &[Step::start(0)]);
-    for _ in 0..16_393 {
-        assert_eq!(board.step(Step::send(0, 1, 0)), ACCEPTED);
-        assert_eq!(board.step(Step::deliver(0)), ACCEPTED);
+    let mut sends = 0;
+    for (until, left) in [
+        (1, 16_760_832),
+        (959, 1_064_960),
+        // 2^20 still gives 2^14: 2^20 - 2^14 is left, then 2^10 less.
+        (960, 1_048_576),
+        (961, 1_032_192),
+        (962, 1_031_168),
+        // The last of 1,024 from more than 2,048, the one from 2,048, a half.
+        (1_967, 2_048),
+        (1_968, 1_024),
+        (1_969, 512),
+        (1_977, 2),
+        (1_978, 1),
+    ] {
+        while sends < until {
+            assert_eq!(board.step(Step::send(0, 1, 0)), ACCEPTED);
+            assert_eq!(board.step(Step::deliver(0)), ACCEPTED);
+            sends += 1;
+        }
+        assert_eq!(board.units[0].weight, left, "{sends} sends");
     }
-    assert_eq!(board.units[0].weight, 1);
     refuse(&board, Step::send(0, 1, 0), WEIGHT_ONE);
 }
 
@@ -429,7 +452,7 @@ fn run() {
     let mut answers = [99; 8];
     assert_eq!(board.run(&steps, &mut answers), Ok(3));
     assert_eq!(answers, [0, 37, 16, 0, 0, 31, 99, 99]);
-    assert_eq!(board.debt, 1_024);
+    assert_eq!(board.debt, 16_384);
 
     let before = board.clone();
     let mut short = [99; 5];

@@ -30,7 +30,8 @@ pub fn script(seed: u64, index: u64) -> Vec<u8> {
     let mut random = Random::new(seed, index);
     match random.below(1000) {
         0..=3 => full_size(&mut random),
-        4..=649 => walk(&mut random),
+        4 | 5 => descent(&mut random),
+        6..=649 => walk(&mut random),
         650..=709 => forms::script(&mut random),
         710..=734 => forms::soup(&mut random),
         _ => {
@@ -56,6 +57,21 @@ fn walk(random: &mut Random) -> Vec<u8> {
         script.pop();
     }
     script
+}
+
+/// A walk behind a descent, which brings a unit to a weight that no other
+/// walk comes by: just 2^20, where the larger share ends.
+fn descent(random: &mut Random) -> Vec<u8> {
+    // 960 sends leave 2^20, 1,978 leave weight 1, the next is refused.
+    let sends = match random.below(4) {
+        0 => 1_979,
+        _ => random.within(960, 980),
+    };
+    let further = random.within(20, 1_500);
+    let mut walker = Walker::new(random);
+    let length = walker.descend(sends);
+    walker.walk_to(length + further);
+    walker.into_script()
 }
 
 /// A script at the limit of length or just over it.

@@ -17,10 +17,12 @@ pub const REACHABLE: ([u16; 8], [u16; 18]) = (
 );
 
 /// What an accepted step can bring about, or a board can be seen in.
-const EVENTS: [&str; 36] = [
+const EVENTS: [&str; 38] = [
     "start of unit 0",
     "start of another unit",
     "start after a finish",
+    "send of 16,384 from 2^20 or more",
+    "send from exactly 2^20",
     "send of 1,024 from 2,048 or more",
     "send of half a weight",
     "send that leaves weight 1",
@@ -211,8 +213,12 @@ impl Statistics {
             Step::SEND => {
                 let left = after.units[usize::from(step.unit)].weight;
                 let in_use = &after.slots[..usize::from(after.m)];
-                met("send of 1,024 from 2,048 or more", unit.weight >= 2048);
-                met("send of half a weight", unit.weight < 2048);
+                let large = unit.weight >= 1 << 20;
+                let half = unit.weight < 2048;
+                met("send of 16,384 from 2^20 or more", large);
+                met("send from exactly 2^20", unit.weight == 1 << 20);
+                met("send of 1,024 from 2,048 or more", !large && !half);
+                met("send of half a weight", half);
                 met("send that leaves weight 1", left == 1);
                 met("send to itself", step.unit == step.other);
                 met(

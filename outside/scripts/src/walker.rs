@@ -26,7 +26,7 @@ impl Mood {
     fn weights(self) -> [usize; 6] {
         match self {
             Mood::Spread => [8, 3, 6, 1, 2, 1],
-            Mood::Starve => [8, 9, 7, 0, 1, 1],
+            Mood::Starve => [10, 9, 7, 0, 1, 1],
             Mood::Fill => [9, 4, 1, 1, 1, 3],
             Mood::Drain => [0, 0, 6, 6, 9, 6],
             Mood::Even => [1, 1, 1, 1, 1, 1],
@@ -43,6 +43,8 @@ struct View {
     ready: Vec<u16>,
     /// Ready, of weight 2 or more.
     rich: Vec<u16>,
+    /// Rich, of weight below 2^20: these give small shares.
+    lean: Vec<u16>,
     /// Ready, of weight 1.
     poor: Vec<u16>,
     not_waiting: Vec<u16>,
@@ -69,6 +71,9 @@ impl View {
                         &mut view.poor
                     };
                     group.push(u);
+                    if (2..1 << 20).contains(&unit.weight) {
+                        view.lean.push(u);
+                    }
                 }
                 State::Waiting if unit.countdown > 0 => view.counting.push(u),
                 State::Waiting => view.due.push(u),
@@ -153,6 +158,29 @@ impl<'r> Walker<'r> {
         }
     }
 
+    /// Starts a unit that sends to others so many times and receives nothing.
+    /// Gives the length of the script.
+    pub fn descend(&mut self, sends: usize) -> usize {
+        let at_root = self.random.chance(3, 4);
+        let unit = if at_root { 0 } else { self.any_unit() };
+        self.add_step(Step::start(unit));
+        // A unit alone has no other to send to.
+        let sends = if self.board.n > 1 { sends } else { 0 };
+        for _ in 0..sends {
+            let slot = self.random.below(usize::from(self.board.m)) as u16;
+            if self.board.slots[usize::from(slot)].kind != Kind::Empty {
+                self.add_step(Step::deliver(slot));
+            }
+            let other = self.other_unit(unit);
+            self.add_step(Step::send(unit, other, slot));
+        }
+        // A rest of unit 0 shows in the debt what it kept.
+        if self.random.chance(2, 3) {
+            self.add_step(Step::rest(unit));
+        }
+        self.text.len()
+    }
+
     /// Adds accepted steps so that the script, which has some hundred bytes
     /// less, has exactly `length` bytes.
     pub fn fill_to(&mut self, length: usize) {
@@ -202,7 +230,7 @@ impl<'r> Walker<'r> {
             .weighted(&[3, 4, 2, 2, if starting { 0 } else { 4 }])];
         self.mood_left = match self.mood {
             Mood::Drain => self.random.within(30, 600),
-            Mood::Starve => self.random.within(15, 60),
+            Mood::Starve => self.random.within(20, 65),
             _ => self.random.within(2, 40),
         };
     }
@@ -229,6 +257,10 @@ impl<'r> Walker<'r> {
             room && !view.due.is_empty(),
         ];
         let mut weights = self.mood.weights();
+        // Who gets a large share is far from weight 1.
+        if self.mood == Mood::Starve && view.lean.is_empty() {
+            weights[0] = 1;
+        }
         for (weight, possible) in weights.iter_mut().zip(possible) {
             *weight *= usize::from(possible);
         }
@@ -237,7 +269,7 @@ impl<'r> Walker<'r> {
         }
         let step = match Step::SEND + self.random.weighted(&weights) as u16 {
             Step::SEND => {
-                let unit = self.giver(&view.rich);
+                let unit = self.giver(&view);
                 let other = self.receiver(unit);
                 Step::send(unit, other, self.random.pick(&view.empty))
             }
@@ -253,35 +285,39 @@ impl<'r> Walker<'r> {
         step
     }
 
-    /// The sender among the rich units.
-    fn giver(&mut self, rich: &[u16]) -> u16 {
+    /// The sender among the rich units, mostly a lean one: large shares soon
+    /// leave no unit that can be starved.
+    fn giver(&mut self, view: &View) -> u16 {
         let weight = |unit: &u16| self.board.units[usize::from(*unit)].weight;
-        match (self.mood, rich.iter().copied().min_by_key(weight)) {
-            (Mood::Starve, Some(poorest)) if self.random.chance(9, 10) => poorest,
-            _ => self.random.pick(rich),
+        match (self.mood, view.rich.iter().copied().min_by_key(weight)) {
+            (Mood::Starve, Some(poorest)) => poorest,
+            _ if !view.lean.is_empty() && self.random.chance(9, 10) => self.random.pick(&view.lean),
+            _ => self.random.pick(&view.rich),
         }
     }
 
     /// The receiver of a send, now and then the sender itself.
     fn receiver(&mut self, sender: u16) -> u16 {
-        let n = self.board.n;
-        if n == 1 || self.random.chance(1, 12) {
+        if self.board.n == 1 || self.random.chance(1, 12) {
             return sender;
         }
+        self.other_unit(sender)
+    }
+
+    fn other_unit(&mut self, unit: u16) -> u16 {
+        let n = self.board.n;
         let further = self.random.within(1, usize::from(n) - 1) as u16;
-        (sender + further) % n
+        (unit + further) % n
     }
 
     /// The message to deliver. A starving walker prefers the light ones,
     /// which leave their receivers poor.
     fn message(&mut self, filled: &[u16]) -> u16 {
-        let one = self.random.pick(filled);
-        let two = self.random.pick(filled);
-        let weight = |slot: u16| self.board.slots[usize::from(slot)].weight;
-        if self.mood == Mood::Starve && weight(two) < weight(one) {
-            two
-        } else {
-            one
+        let some = [(); 3].map(|()| self.random.pick(filled));
+        let weight = |slot: &u16| self.board.slots[usize::from(*slot)].weight;
+        match (self.mood, some.iter().copied().min_by_key(weight)) {
+            (Mood::Starve, Some(lightest)) => lightest,
+            _ => some[0],
         }
     }
 

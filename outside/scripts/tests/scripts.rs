@@ -76,30 +76,30 @@ fn boards_hold() {
 fn faults_are_found() {
     let script = b"board\t2\t0\nstart\t0\nsend\t0\t0\t0\nrest\t0\ndeliver\t0\nstart\t0\nrest\t0\n";
     let good = "step|answer|debt|state\n0|0|0|finished\n1|0|16777216|working\n\
-        2|0|16777216|working\n3|0|1024|working\n4|0|1024|working\n5|37|1024|working\n\
+        2|0|16777216|working\n3|0|16384|working\n4|0|16384|working\n5|37|16384|working\n\
         6|0|0|finished\n";
     let check = |listing: &str| check_listing(script, listing.replace('|', "\t").as_bytes());
     assert_eq!(check(good), Ok(()));
     for (part, wrong) in [
         ("state", "State"),
         ("step|answer|debt|state\n", ""),
-        ("3|0|1024|working", "3|0|1024"),
-        ("3|0|1024|working", "3|0|1024|working|"),
-        ("3|0|1024|working", "3|0|01024|working"),
-        ("3|0|1024|working", "3|0||working"),
-        ("3|0|1024|working", "03|0|1024|working"),
-        ("3|0|1024|working", "4|0|1024|working"),
-        ("3|0|1024|working", "3|0|1024|finished"),
+        ("3|0|16384|working", "3|0|16384"),
+        ("3|0|16384|working", "3|0|16384|working|"),
+        ("3|0|16384|working", "3|0|016384|working"),
+        ("3|0|16384|working", "3|0||working"),
+        ("3|0|16384|working", "03|0|16384|working"),
+        ("3|0|16384|working", "4|0|16384|working"),
+        ("3|0|16384|working", "3|0|16384|finished"),
         ("6|0|0|finished", "6|0|0|working"),
         ("6|0|0|finished", "6|0|0|refused"),
         ("6|0|0|finished\n", "6|0|0|finished"),
         ("6|0|0|finished\n", ""),
         ("6|0|0|finished\n", "6|0|0|finished\n7|0|0|finished\n"),
-        ("6|0|0|finished", "6|36|1024|working"),
-        ("6|0|0|finished", "6|0|16778240|working"),
-        ("5|37|1024", "5|37|1023"),
-        ("5|37|1024", "5|0|16778240"),
-        ("4|0|1024", "4|0|2048"),
+        ("6|0|0|finished", "6|36|16384|working"),
+        ("6|0|0|finished", "6|0|16793600|working"),
+        ("5|37|16384", "5|37|16383"),
+        ("5|37|16384", "5|0|16793600"),
+        ("4|0|16384", "4|0|32768"),
         ("2|0|16777216", "2|0|16777215"),
         ("1|0|16777216", "1|0|16777215"),
         ("0|0|0|finished", "0|11|0|finished"),

@@ -43,10 +43,11 @@
 //! send 1 3 0, rest 2, send 0 4 2.
 //!
 //! Base board of `suspended`: the same opening, then start 1, send 1 2 0,
-//! deliver 0, ten times (send 2 3 0, deliver 0), send 1 4 1, deliver 1, ten
-//! times (send 4 3 1, deliver 1), request 2 0, request 4 1, deliver 1, rest 3,
-//! tick 3, tick 3, release 3 2, send 1 3 3, deliver 3, rest 3. Unit 2 has a
-//! request under way, unit 4 a supply, slot 2 is a return, unit 3 waits.
+//! deliver 0, twenty-five times (send 2 3 0, deliver 0), send 1 4 1,
+//! deliver 1, twenty-five times (send 4 3 1, deliver 1), request 2 0,
+//! request 4 1, deliver 1, rest 3, tick 3, tick 3, release 3 2, send 1 3 3,
+//! deliver 3, rest 3. Unit 2 has a request under way, unit 4 a supply, slot 2
+//! is a return, unit 3 waits.
 //!
 //! # limits
 //!
@@ -201,7 +202,7 @@ fn suspended_base() -> Board {
     let mut steps = vec![Step::start(1)];
     for (unit, slot) in [(2, 0), (4, 1)] {
         steps.extend([Step::send(1, unit, slot), Step::deliver(slot)]);
-        for _ in 0..10 {
+        for _ in 0..25 {
             steps.extend([Step::send(unit, 3, slot), Step::deliver(slot)]);
         }
     }

@@ -5,10 +5,10 @@ use Rattle.case_lists.proofs.sends.sends.Statement.{statement}
 use Rattle.case_lists.proofs.sends.sends.Tie as tie
 
 abbrev Inv-loop : tie.InvT-loop
-Inv-loop b₀ k₀ b k = k ≤ 16393
+Inv-loop b₀ k₀ b k = k ≤ 1978
 
 abbrev μ-loop : tie.MeasureT-loop
-μ-loop b₀ k₀ b k = 16393 - k
+μ-loop b₀ k₀ b k = 1978 - k
 
 loop-holds : tie.Need-loop-holds Inv-loop μ-loop
 loop-holds c = search needs
