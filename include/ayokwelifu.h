@@ -42,7 +42,8 @@ enum ayokwelifu_refusal {
     AYOKWELIFU_WRONG_FIELD_COUNT = 23,
     AYOKWELIFU_NO_NUMBER = 24,
     AYOKWELIFU_BOARD_LINE = 25,
-    AYOKWELIFU_NO_ROOM = 27
+    AYOKWELIFU_NO_ROOM = 27,
+    AYOKWELIFU_PADDED_NUMBER = 28
 };
 
 /* No listing is longer, in bytes: a buffer of this size takes the listing of any script. */
@@ -74,8 +75,9 @@ uint16_t ayokwelifu_write_step(uint16_t kind, uint16_t unit, uint16_t other, uin
 
 /*
  * The step that a line says, handed over without its byte 10, goes to the four cells, with 0 in the fields that its
- * kind has no letter for. What ayokwelifu_write_step wrote is read back as that step. Returns 0, or the number that
- * refuses the line: 21, 22, 25 (a board line is no step), 23 or 24.
+ * kind has no letter for. What ayokwelifu_write_step wrote is read back as that step, and no other line is: a number
+ * of two or more digits that begins with 0 is refused. Returns 0, or the number that refuses the line: the first of 21,
+ * 22, 25 (a board line is no step), 23, 28 and 24 that holds.
  */
 uint16_t ayokwelifu_read_step(const uint8_t *line, size_t line_length, uint16_t *kind, uint16_t *unit,
                               uint16_t *other, uint16_t *slot);

@@ -12,7 +12,7 @@ fn boards() {
     title(b"first lines");
     first(b"board\t2\t1\t0");
     first(b"board\t2\t1"); // no parents
-    first(b"board\t256\t255\t0\t1\t02");
+    first(b"board\t256\t255\t0\t1\t2");
     first(b"board\t65535\t65535\t65535"); // numbers all the same
     first(b"board"); // 23
     first(b"board\t2"); // 23
@@ -80,11 +80,9 @@ fn counts() {
 
 fn numbers() {
     title(b"numbers");
-    later(b"start\t007"); // leading zeros are read
+    later(b"start\t7");
     later(b"start\t65535");
     later(b"start\t65536"); // 24
-    later(b"start\t00065535");
-    later(b"start\t00065536"); // 24
     later(b"start\t18446744073709551617"); // 24, and not 1
     later(b"send\t\t2\t3"); // 24, an empty field
     later(b"send\t1\t\t3"); // 24
@@ -96,8 +94,8 @@ fn numbers() {
 
 fn digits() {
     title(b"digits");
-    later(b"start\t0123456789"); // 24
-    later(b"send\t01234\t5678\t9");
+    later(b"start\t1023456789"); // 24
+    later(b"send\t12340\t5678\t9");
     later(b"start\t/"); // 24, the byte before the digit 0
     later(b"start\t:"); // 24, the byte after the digit 9
     later(b"start\t-1"); // 24
@@ -106,9 +104,54 @@ fn digits() {
     later(b"start\t1 "); // 24
 }
 
+fn padded() {
+    title(b"padded");
+    later(b"start\t0"); // not padded
+    later(b"start\t00"); // 28
+    later(b"start\t07"); // 28
+    later(b"start\t00065535"); // 28
+    later(b"start\t0070000"); // 28, and above 65,535
+    later(b"start\t0123456789"); // 28
+    later(b"start\t70"); // not padded
+    later(b"start\t0x"); // 24
+    later(b"start\t0:"); // 24, the byte after the digit 9
+    later(b"start\t0/"); // 24, the byte before the digit 0
+    later(b"start\t000x"); // 24
+    later(b"start\t-01"); // 24
+}
+
+fn padded_fields() {
+    title(b"padded fields");
+    later(b"send\t0\t0\t0"); // not padded
+    later(b"send\t01\t2\t3"); // 28, the first
+    later(b"send\t1\t02\t3"); // 28, a middle one
+    later(b"send\t1\t2\t03"); // 28, the last
+    later(b"send\t01\tx\t3"); // 28, before 24 behind it
+    later(b"send\tx\t2\t03"); // 28, before 24 in front of it
+    later(b"send\t01\t2\t"); // 28, and an empty field
+    later(b"send\t\t02\t3"); // 28, and an empty field in front
+    later(b"send\t65536\t2\t03"); // 28, and a number above 65,535
+    later(b"rest\t01\t2"); // 23, before 28
+    later(b"board\t01\t1"); // 25, before 28
+    later(b"stop\t01"); // 22, before 28
+}
+
+fn padded_boards() {
+    title(b"padded first lines");
+    first(b"board\t0\t0\t0"); // not padded
+    first(b"board\t02\t1\t0"); // 28, M
+    first(b"board\t2\t01\t0"); // 28, d
+    first(b"board\t2\t1\t00\t1"); // 28, the first parent
+    first(b"board\t2\t1\t0\t01"); // 28, the last
+    first(b"board\t02\tx"); // 28, before 24 behind it
+    first(b"board\tx\t02"); // 28, before 24 in front of it
+    first(b"board\t02"); // 23, before 28
+    first(b"start\t02"); // 25, before 28
+}
+
 fn lengths() {
     title(b"lengths");
-    long::zeros(b"start\t", 255);
+    long::zeros(b"start\t", 255); // 28
     long::zeros(b"start\t", 256); // 21
     long::zeros(b"stop\t", 255); // 22
     long::zeros(b"stop\t", 256); // 21, before 22
@@ -116,6 +159,8 @@ fn lengths() {
     long::zeros(b"board\t", 256); // 21, before 25
     long::ones(255); // M, d and 123 parents
     long::ones(256); // 21
+    long::first_zeros(b"board\t2\t1\t5\t", 255); // 28, and no parents
+    long::first_zeros(b"board\t2\t1\t5\t", 256); // 21, before 28
 }
 
 fn step(kind: u16, unit: u16, other: u16, slot: u16) -> StepRecord {
@@ -162,6 +207,9 @@ fn main() {
     counts();
     numbers();
     digits();
+    padded();
+    padded_fields();
+    padded_boards();
     lengths();
     written();
     not_written();

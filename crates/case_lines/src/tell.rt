@@ -64,6 +64,15 @@ pub(crate) fn first(line: &[u8]) {
     told(r, list);
 }
 
+// The first three entries of a first line's parents, whatever the line says.
+pub(crate) fn three_parents(line: &[u8]) {
+    let b = script::read_board(line);
+    let list = b.parents;
+    text(b"parents");
+    parents(list, 3);
+    text(b"\n");
+}
+
 pub(crate) fn later(line: &[u8]) {
     told(script::read_line(line, false), [0u16; 128]);
 }

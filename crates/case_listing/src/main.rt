@@ -53,6 +53,10 @@ fn first_lines() {
     show(b"22", b"bored\t1\t0\n");
     show(b"25, and 23", b"start\n");
     show(b"23, and 24", b"board\tx\n");
+    show(b"23, and 28", b"board\t01\n");
+    show(b"28, and 24", b"board\tx\t00\n");
+    show(b"28, and 11", b"board\t0\t00\n");
+    show(b"28, and 12", b"board\t1\t0\t01\n");
     show(b"24, and 11", b"board\t0\tx\n");
     show(b"11, and 12", b"board\t0\t0\t1\n");
     show(b"11, M", b"board\t257\t0\n");
@@ -68,7 +72,7 @@ fn later_lines() {
     show(b"22, and 25", b"bored\nboard\t1\t0\n");
     show(
         b"bad lines leave the board as it was",
-        b"board\t1\t0\nstart\t0\nstrat\t0\nboard\t1\t0\nrest\nrest\t\nrest\t0x\nrest\t65536\nrest\t65535\ndeliver\t1\nrest\t000\n",
+        b"board\t1\t0\nstart\t0\nstrat\t0\nboard\t1\t0\nrest\nrest\t\nrest\t0x\nrest\t65536\nrest\t65535\ndeliver\t1\nrest\t000\nrest\t0\n",
     );
 }
 

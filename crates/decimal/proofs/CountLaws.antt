@@ -3,7 +3,7 @@ use mathlib.Core.Path.{_≡_, refl, ap, _∙_}
 use mathlib.Core.Bool.{Bool, true, false, cond}
 use mathlib.Core.Logic.{⊎-elim}
 use Prim.Native.Nat.{ℕ, zero, suc, pred, _^_, _≤_, _<_, zero-le, suc-le-suc}
-use native.Mathlib.Nat.{le-refl, le-trans, le-of-suc-le-suc, not-suc-le-zero, eq-or-lt-of-le, one-le-pow, pow-le-pow-right}
+use native.Mathlib.Nat.{le-refl, le-trans, le-of-suc-le-suc, lt-irrefl, not-suc-le-zero, eq-or-lt-of-le, one-le-pow, pow-le-pow-right}
 use native.Mathlib.Omega.{arith}
 use lib.Dec.{leb}
 use borrow.Author.Tests.{leb-true, leb-false, le-leb, lt-leb}
@@ -70,6 +70,30 @@ module _ (n : ℕ) where
 
   pub count-word : n ≤ 65535 → digitCount n ≤ 5
   count-word h = count-bound 5 (omega arith) (omega arith) (omega arith)
+
+  -- ---- as many digits as the powers around the number say
+  power-few : (k : ℕ) → n < 10 ^ 20 → 10 ^ k ≤ n → k < 20
+  power-few k l r = by-test (leb 20 k) refl
+    where
+      by-test : (t : Bool) → leb 20 k ≡ t → k < 20
+      by-test true e = absurd (lt-irrefl n (le-trans l (le-trans (power-le (leb-true 20 k e)) r)))
+      by-test false e = leb-false 20 k e
+
+  pub count-exact : (k : ℕ) → n < 10 ^ 20 → n < 10 ^ suc k → (1 ≤ k → 10 ^ k ≤ n) → digitCount n ≡ suc k
+  unfolding digitsUpTo
+  count-exact zero l h r = count-here 1 (le-refl 1) (suc-le-suc zero-le) h
+  count-exact (suc k) l h r =
+      let reaches : 10 ^ suc k ≤ n = r (suc-le-suc zero-le) in
+      count-here (suc (suc k)) (suc-le-suc zero-le) (power-few (suc k) l reaches) h ∙ count-at (suc k) (suc-le-suc zero-le) reaches
+
+  up-to-reaches : (k : ℕ) → 2 ≤ digitsUpTo k n → 10 ^ pred (digitsUpTo k n) ≤ n
+  unfolding digitsUpTo
+  up-to-reaches zero = λ h. absurd (omega (arith, h))
+  up-to-reaches (suc k) = by-power (λ d. 2 ≤ d → 10 ^ pred d ≤ n) k (λ l h. l) (λ l. up-to-reaches k)
+
+  -- two digits or more: the number reaches the power of the first
+  pub count-reaches : 2 ≤ digitCount n → 10 ^ pred (digitCount n) ≤ n
+  count-reaches = up-to-reaches 19
 
   -- ---- the digits suffice
   up-to-below : (k : ℕ) → n < 10 ^ suc k → n < 10 ^ digitsUpTo k n

@@ -1,4 +1,4 @@
--- A field's bytes as a number: one or more digits, at most 65,535; leading zeros are read.
+-- A field's bytes as a number: one or more digits, at most 65,535. Leading zeros are read here; a line is refused for them before (M-101).
 use mathlib.Core.Bool.{Bool, true, cond, _&&_}
 use mathlib.Core.List.{List, [], _∷_}
 use Prim.Native.Nat.{ℕ, _+_, _-_, _*_}

@@ -1,21 +1,24 @@
--- The fields of a word with numbers behind tabs: the word, then each number's digits, which are read back as the number.
-use mathlib.Core.Path.{_≡_, refl, ap, _∙_}
+-- The fields of a word with numbers behind tabs: the word, then each number's digits, which are read back as the number; and a line whose
+-- number fields nothing refuses is such a line.
+use mathlib.Core.Path.{_≡_, refl, sym, ap, _∙_}
 use mathlib.Core.Bool.{true, and-eq-true-iff}
 use mathlib.Core.List.{List, [], _∷_, _++_, map, append-nil}
-use Prim.Native.Nat.{ℕ, suc, _+_, _*_, _≤_}
+use Prim.Native.Nat.{ℕ, zero, suc, _+_, _*_, _≤_}
 use native.Mathlib.Omega.{arith}
 use lib.Dec.{leb}
-use lib.ListN.{length, length-append}
+use lib.ListN.{length, drop, length-append}
 use borrow.Author.Tests.{leb-true, ne-eqb}
-use Rattle.decimal.specs.Reading.{isDigit, allDigits}
+use Rattle.decimal.specs.Reading.{isDigit, allDigits, valueFrom}
 use Rattle.decimal.specs.Spelling.{spelled}
 use Rattle.decimal.proofs.CountLaws.{count-word}
 use Rattle.decimal.proofs.SpellLaws.{spelled-digits, spelled-length}
 use Rattle.decimal.proofs.RoundTrip.{value-spelled, spelled-number}
-use Rattle.fields.specs.Fields.{tab, countOf, upTo}
-use Rattle.fields.proofs.PartLaws.{upTo-whole, upTo-joined, past-joined, count-joined}
-use Rattle.numbers.specs.Numbers.{fieldsOf, fieldsAt, allNumbers, values, tabbed}
+use Rattle.fields.specs.Fields.{tab, countOf, upTo, past}
+use Rattle.fields.proofs.PartLaws.{upTo-whole, upTo-joined, past-joined, count-joined, count-past, parted}
+use Rattle.numbers.specs.Numbers.{fieldsOf, fieldsAt, allNumbers, noLeadingZeros, values, refusalOf, tabbed}
 use Rattle.numbers.proofs.PlaceLaws.{fields-past-end, fields-on, fields-split}
+use Rattle.numbers.proofs.NumberLaws.{fine-cons, fine-plain, fine-number, fine-tail}
+use Rattle.numbers.proofs.ZeroLaws.{plain-spelled, number-small, spelled-plain}
 
 -- ---- numbers of 16 bits, each in at most five digits
 abbrev pub Small : List ℕ → Type 0
@@ -61,12 +64,36 @@ fields-tabbed w [] e h = ap fieldsOf (append-nil w) ∙ fields-alone w e
 fields-tabbed w (n ∷ ns) e h = fields-joined w e (spelled n ++ tabbed ns) ∙ ap (λ (fs : List (List ℕ)). w ∷ fs) (fields-tabbed (spelled n) ns (spelled-none n (h .0)) (h .1))
 
 -- ---- read back
-pub numbers-tabbed : (ns : List ℕ) → Small ns → allNumbers (map spelled ns) ≡ true
-unfolding allNumbers
-numbers-tabbed [] h = refl
-numbers-tabbed (n ∷ ns) h = rw (spelled-number n (h .0), numbers-tabbed ns (h .1))
+pub fine-tabbed : (ns : List ℕ) → Small ns → refusalOf (map spelled ns) ≡ 0
+unfolding noLeadingZeros allNumbers
+fine-tabbed [] h = refl
+fine-tabbed (n ∷ ns) h = fine-cons (spelled n) (map spelled ns) (plain-spelled n) (spelled-number n (h .0)) (fine-tabbed ns (h .1))
 
 pub values-tabbed : (ns : List ℕ) → Small ns → values (map spelled ns) ≡ ns
 unfolding values
 values-tabbed [] h = refl
 values-tabbed (n ∷ ns) h = rw (value-spelled n (omega (arith, h .0)), values-tabbed ns (h .1))
+
+-- ---- the other way: the values of fields that nothing refuses, and the line that these are written in
+pub values-small : (fs : List (List ℕ)) → refusalOf fs ≡ 0 → Small (values fs)
+unfolding values
+values-small [] e = tt
+values-small (f ∷ fs) e = (number-small f (fine-number f fs e), values-small fs (fine-tail f fs e))
+
+fields-first : (l : List ℕ) → fieldsOf l ≡ upTo tab l ∷ drop 1 (fieldsOf l)
+fields-first l = fields-split l ∙ ap (λ (fs : List (List ℕ)). upTo tab l ∷ drop 1 fs) (sym (fields-split l))
+
+pub line-tabbed : (n : ℕ) (l : List ℕ) → countOf tab l ≡ n → refusalOf (drop 1 (fieldsOf l)) ≡ 0 → upTo tab l ++ tabbed (values (drop 1 (fieldsOf l))) ≡ l
+unfolding tabbed values
+line-tabbed zero l q e =
+    ap (λ (fs : List (List ℕ)). upTo tab l ++ tabbed (values (drop 1 fs))) (fields-alone l q) ∙ append-nil (upTo tab l) ∙ upTo-whole tab l q
+line-tabbed (suc n) l q e =
+    let p : List ℕ = past tab l in
+    let behind : drop 1 (fieldsOf l) ≡ upTo tab p ∷ drop 1 (fieldsOf p) = ap (drop 1) (fields-split l) ∙ fields-on l (omega (arith, q)) ∙ fields-first p in
+    let fine : refusalOf (upTo tab p ∷ drop 1 (fieldsOf p)) ≡ 0 = ap refusalOf (sym behind) ∙ e in
+    let first : spelled (valueFrom 0 (upTo tab p)) ≡ upTo tab p = spelled-plain (upTo tab p) (fine-plain (upTo tab p) (drop 1 (fieldsOf p)) fine) (fine-number (upTo tab p) (drop 1 (fieldsOf p)) fine) in
+    let rest : upTo tab p ++ tabbed (values (drop 1 (fieldsOf p))) ≡ p = line-tabbed n p (omega (arith, q, count-past tab l)) (fine-tail (upTo tab p) (drop 1 (fieldsOf p)) fine) in
+    ap (λ (fs : List (List ℕ)). upTo tab l ++ tabbed (values fs)) behind
+    ∙ ap (λ (f : List ℕ). upTo tab l ++ tab ∷ (f ++ tabbed (values (drop 1 (fieldsOf p))))) first
+    ∙ ap (λ (k : List ℕ). upTo tab l ++ tab ∷ k) rest
+    ∙ parted tab l (omega (arith, q))

@@ -1,5 +1,6 @@
 pub mod LineLaws
 pub mod PlaceLaws
 pub mod NumberLaws
+pub mod ZeroLaws
 pub mod PassLaws
 pub mod JoinLaws

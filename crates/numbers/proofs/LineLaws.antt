@@ -1,7 +1,7 @@
--- The lines of a text: what stands behind a line is a shorter end of the text, and more turns give no more lines.
+-- The lines of a text: what stands behind a line is a shorter end of the text, more turns give no more lines, and a text is its lines.
 use mathlib.Core.Path.{_≡_, refl, sym, ap, _∙_}
 use mathlib.Core.Bool.{Bool, true, false, cond}
-use mathlib.Core.List.{List, [], _∷_}
+use mathlib.Core.List.{List, [], _∷_, _++_}
 use Prim.Native.Nat.{ℕ, zero, suc, _+_, _-_, _≤_, _<_, min}
 use native.Mathlib.Nat.{not-suc-le-zero}
 use native.Mathlib.Omega.{arith}
@@ -9,9 +9,9 @@ use lib.ListN.{length, take, drop, length-drop, drop-of-length-le}
 use lib.Seq.{drop-drop}
 use lib.Dec.{eqb, leb}
 use borrow.Author.Tests.{leb-true, leb-false}
-use Rattle.fields.specs.Fields.{upTo, past, endFrom}
-use Rattle.fields.proofs.PartLaws.{past-at-most, past-stands, past-from, upTo-from, end-after, end-at-most, end-last}
-use Rattle.numbers.specs.Lines.{linesWithin, linesOf, behind, lineAt}
+use Rattle.fields.specs.Fields.{upTo, past, countOf, endFrom}
+use Rattle.fields.proofs.PartLaws.{past-at-most, past-stands, past-from, upTo-from, count-past, parted, end-after, end-at-most, end-last}
+use Rattle.numbers.specs.Lines.{linesWithin, linesOf, allEnded, behind, lineAt}
 use Rattle.numbers.specs.declared.LineAt.{LineAt}
 
 pub past-shorter : (e c : ℕ) (cs : List ℕ) → length (past e (c ∷ cs)) ≤ length cs
@@ -90,3 +90,20 @@ pub lines-behind : (k : ℕ) (s : List ℕ) → length s ≤ k → linesWithin (
 unfolding linesWithin past
 lines-behind k [] p = refl
 lines-behind k (c ∷ cs) p = lines-enough (suc k) (length cs) (past 10 (c ∷ cs)) (omega (arith, p, past-shorter 10 c cs)) (past-shorter 10 c cs)
+
+-- ---- a text each line of which has its byte 10 is its lines, joined
+abbrev joined : List (List ℕ) → List ℕ
+joined [] = []
+joined (l ∷ ls) = l ++ 10 ∷ joined ls
+
+lines-joined : (k : ℕ) (s : List ℕ) → length s ≤ k → length (linesWithin k s) ≡ countOf 10 s → joined (linesWithin k s) ≡ s
+unfolding linesWithin
+lines-joined zero [] p q = refl
+lines-joined zero (c ∷ cs) p q = absurd (not-suc-le-zero p)
+lines-joined (suc k) [] p q = refl
+lines-joined (suc k) (c ∷ cs) p q =
+    let s : List ℕ = c ∷ cs in
+    ap (λ (t : List ℕ). upTo 10 s ++ 10 ∷ t) (lines-joined k (past 10 s) (omega (arith, p, past-shorter 10 c cs)) (omega (arith, q, count-past 10 s))) ∙ parted 10 s (omega (arith, q))
+
+pub same-lines : (s t : List ℕ) → allEnded s → allEnded t → linesOf s ≡ linesOf t → s ≡ t
+same-lines s t p q e = sym (lines-joined (length s) s (omega arith) p) ∙ ap joined e ∙ lines-joined (length t) t (omega arith) q

@@ -1,16 +1,16 @@
--- Fields as numbers: whether all are, their values, and their values padded with zeros.
+-- Fields as numbers: whether all are, what holds where nothing refuses them, their values, and their values padded with zeros.
 use mathlib.Core.Path.{_≡_, refl, sym, ap, _∙_}
-use mathlib.Core.Bool.{Bool, true, false, cond, _&&_, and-eq-true-iff}
+use mathlib.Core.Bool.{Bool, true, false, not, cond, _&&_, and-eq-true-iff}
 use mathlib.Core.List.{List, [], _∷_, _++_}
 use Prim.Native.Nat.{ℕ, zero, suc, _+_, _*_, _≤_, _<_}
 use native.Mathlib.Omega.{arith}
 use lib.Dec.{leb}
 use lib.ListN.{length, take, drop, getD, replicate, length-append, length-drop}
-use borrow.Author.Tests.{leb-true, leb-false}
+use borrow.Author.Tests.{leb-true, leb-false, eq-eqb, not-true}
 use Rattle.decimal.specs.Reading.{isNumber, allDigits, valueFrom}
 use Rattle.fields.specs.Fields.{tab, upTo, past, countOf, fieldCount}
 use Rattle.fields.proofs.PartLaws.{upTo-at-most, parted, count-past}
-use Rattle.numbers.specs.Numbers.{fieldsOf, fieldsAt, allNumbers, values, padded, room, refusalOf, numbersOf}
+use Rattle.numbers.specs.Numbers.{fieldsOf, fieldsAt, allNumbers, hasLeadingZero, noLeadingZeros, values, padded, room, refusalOf, numbersOf}
 use Rattle.numbers.proofs.PlaceLaws.{fields-inside, fields-past-end, fields-on, fields-split, fields-count}
 
 -- ---- numbers
@@ -26,22 +26,45 @@ module _ (f : List ℕ) (fs : List (List ℕ)) (e : allNumbers (f ∷ fs) ≡ tr
   unfolding allNumbers
   numbers-tail = and-eq-true-iff (isNumber f) (allNumbers fs) .0 e .1
 
-pub numbers-drop : (n : ℕ) (fs : List (List ℕ)) → allNumbers fs ≡ true → allNumbers (drop n fs) ≡ true
-numbers-drop zero fs e = e
-numbers-drop (suc n) [] e = e
-numbers-drop (suc n) (f ∷ fs) e = numbers-drop n fs (numbers-tail f fs e)
-
--- a line whose fields are refused by none has only numbers
-pub numbers-all : (fs : List (List ℕ)) → refusalOf fs ≡ 0 → allNumbers fs ≡ true
-numbers-all fs e = by-test (allNumbers fs) e
+-- ---- fields that nothing refuses
+fine-both : (fs : List (List ℕ)) → refusalOf fs ≡ 0 → (noLeadingZeros fs ≡ true) × (allNumbers fs ≡ true)
+fine-both fs e = by-tests (noLeadingZeros fs) (allNumbers fs) e
   where
-    by-test : (t : Bool) → _≡_ {A = ℕ} (cond t 0 24) 0 → t ≡ true
-    by-test true q = refl
-    by-test false q = absurd (omega (arith, q))
+    by-tests : (s t : Bool) → _≡_ {A = ℕ} (cond s (cond t 0 24) 28) 0 → (s ≡ true) × (t ≡ true)
+    by-tests true true q = (refl, refl)
+    by-tests true false q = absurd (omega (arith, q))
+    by-tests false t q = absurd (omega (arith, q))
 
--- one whose fields are all numbers has their values
-pub numbers-list : (fs : List (List ℕ)) → allNumbers fs ≡ true → numbersOf fs .list ≡ padded room (values fs)
-numbers-list fs e = rw e
+pub numbers-all : (fs : List (List ℕ)) → refusalOf fs ≡ 0 → allNumbers fs ≡ true
+numbers-all fs e = fine-both fs e .1
+
+-- they have their values
+pub numbers-list : (fs : List (List ℕ)) → refusalOf fs ≡ 0 → numbersOf fs .list ≡ padded room (values fs)
+numbers-list fs e = ap (λ (t : Bool). padded room (cond t (values fs) [])) (eq-eqb (refusalOf fs) 0 e)
+
+-- the first of them is a number without a leading zero, and nothing refuses those behind it
+pub fine-cons : (f : List ℕ) (fs : List (List ℕ)) → hasLeadingZero f ≡ false → isNumber f ≡ true → refusalOf fs ≡ 0 → refusalOf (f ∷ fs) ≡ 0
+unfolding noLeadingZeros allNumbers
+fine-cons f fs z n e = let both = fine-both fs e in rw (z, n, both .0, both .1)
+
+module _ (f : List ℕ) (fs : List (List ℕ)) (e : refusalOf (f ∷ fs) ≡ 0) where
+  zeros : (not (hasLeadingZero f) ≡ true) × (noLeadingZeros fs ≡ true)
+  unfolding noLeadingZeros
+  zeros = and-eq-true-iff (not (hasLeadingZero f)) (noLeadingZeros fs) .0 (fine-both (f ∷ fs) e .0)
+
+  pub fine-plain : hasLeadingZero f ≡ false
+  fine-plain = not-true (hasLeadingZero f) (zeros .0)
+
+  pub fine-number : isNumber f ≡ true
+  fine-number = number-head f fs (numbers-all (f ∷ fs) e)
+
+  pub fine-tail : refusalOf fs ≡ 0
+  fine-tail = rw (zeros .1, numbers-tail f fs (numbers-all (f ∷ fs) e))
+
+pub fine-drop : (n : ℕ) (fs : List (List ℕ)) → refusalOf fs ≡ 0 → refusalOf (drop n fs) ≡ 0
+fine-drop zero fs e = e
+fine-drop (suc n) [] e = e
+fine-drop (suc n) (f ∷ fs) e = fine-drop n fs (fine-tail f fs e)
 
 -- ---- values
 pub values-length : (fs : List (List ℕ)) → length (values fs) ≡ length fs

@@ -1,8 +1,9 @@
 -- The lines of a text.
+use mathlib.Core.Path.{_≡_}
 use mathlib.Core.List.{List, [], _∷_}
 use Prim.Native.Nat.{ℕ, zero, suc, _-_}
 use lib.ListN.{length, drop}
-use Rattle.fields.specs.Fields.{upTo, past, endFrom}
+use Rattle.fields.specs.Fields.{upTo, past, countOf, endFrom}
 use Rattle.numbers.specs.declared.LineAt.{LineAt}
 
 -- lines ended by byte 10; a last line may lack it, and after a last byte 10 no further line begins. A line has at least one byte of the
@@ -14,6 +15,10 @@ linesWithin (suc k) (c ∷ cs) = upTo 10 (c ∷ cs) ∷ linesWithin k (past 10 (
 
 abbrev pub linesOf : List ℕ → List (List ℕ)
 linesOf s = linesWithin (length s) s
+
+-- each line has its byte 10: there are as many of these as lines
+abbrev pub allEnded : List ℕ → Type 0
+allEnded s = length (linesOf s) ≡ countOf 10 s
 
 -- behind the line at a place
 abbrev pub behind : ℕ → List ℕ → ℕ

@@ -1,10 +1,10 @@
 -- The number fields of a line: all of its fields, or those from a place on.
-use mathlib.Core.Bool.{Bool, true, cond, _&&_}
+use mathlib.Core.Bool.{Bool, true, not, cond, _&&_}
 use mathlib.Core.List.{List, [], _∷_, _++_}
 use Prim.Native.Nat.{ℕ, zero, suc}
-use lib.ListN.{length, drop}
+use lib.ListN.{length, drop, getD}
 use lib.Dec.{leb, eqb}
-use Rattle.decimal.specs.Reading.{isNumber, valueFrom}
+use Rattle.decimal.specs.Reading.{allDigits, isNumber, valueFrom}
 use Rattle.decimal.specs.Spelling.{spelled}
 use Rattle.fields.specs.Fields.{tab, fieldOf, fieldCount}
 use Rattle.numbers.specs.declared.Numbers.{Numbers}
@@ -27,6 +27,14 @@ unfoldable pub allNumbers : List (List ℕ) → Bool
 allNumbers [] = true
 allNumbers (f ∷ fs) = isNumber f && allNumbers fs
 
+-- a padded number (M-101's word): two or more digits and nothing else, the first of them 0
+unfoldable pub hasLeadingZero : List ℕ → Bool
+hasLeadingZero f = leb 2 (length f) && (eqb (getD f 0 0) 48 && allDigits f)
+
+unfoldable pub noLeadingZeros : List (List ℕ) → Bool
+noLeadingZeros [] = true
+noLeadingZeros (f ∷ fs) = not (hasLeadingZero f) && noLeadingZeros fs
+
 unfoldable pub values : List (List ℕ) → List ℕ
 values [] = []
 values (f ∷ fs) = valueFrom 0 f ∷ values fs
@@ -36,11 +44,12 @@ pub record FieldCheck : Type 0 where
   pub passes : Bool
   pub number : ℕ
 
--- 24 a number field empty, with a byte that is no digit, or above 65,535. The first of the row that fails refuses the line, whichever of
--- its fields is the first bad one
+-- 28 a padded number in any field (M-101), 24 a number field empty, with a byte that is no digit, or above 65,535. The first of the row
+-- that fails refuses the line, whichever of its fields is the first bad one
 abbrev pub fieldChecks : List (List ℕ) → List FieldCheck
 fieldChecks fs =
-    record { passes = allNumbers fs; number = 24 }
+    record { passes = noLeadingZeros fs; number = 28 }
+    ∷ record { passes = allNumbers fs; number = 24 }
     ∷ []
 
 -- the number of the first that fails, 0 where none does

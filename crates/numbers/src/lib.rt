@@ -1,6 +1,7 @@
 // The number fields of a line, and the lines of a text: bytes, with no word and no board.
 mod lines;
 mod reading;
+mod zeros;
 
 pub use lines::line_at;
 pub use reading::read_numbers;

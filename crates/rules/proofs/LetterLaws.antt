@@ -2,8 +2,10 @@
 use mathlib.Core.Path.{_≡_, refl, sym, ap, _∙_}
 use mathlib.Core.Bool.{cond}
 use mathlib.Core.List.{List, [], _∷_}
-use Prim.Native.Nat.{ℕ, suc, _<_, _^_}
-use lib.ListN.{length, getD}
+use Prim.Native.Nat.{ℕ, zero, suc, _+_, _<_, _^_}
+use native.Mathlib.Omega.{arith}
+use lib.ListN.{length, drop, getD, drop-of-length-le}
+use lib.Seq.{drop-cons}
 use Rattle.rules.specs.Sound.{sound}
 use Rattle.rules.specs.Actions.{actionOf}
 use Rattle.rules.specs.Letters.{Field, unitField, otherField, slotField, Letter, letters, read, put, valuesOf, recordFrom, usedFields, used, slotOf}
@@ -30,7 +32,7 @@ by-action b r Rest = refl
 by-action b r Tick = refl
 by-action b r Release = refl
 
-record-kind : (k i : ℕ) (ls : List Letter) (xs : List ℕ) → recordFrom k i ls xs .kind ≡ k
+pub record-kind : (k i : ℕ) (ls : List Letter) (xs : List ℕ) → recordFrom k i ls xs .kind ≡ k
 record-kind k i [] xs = refl
 record-kind k i (l ∷ ls) xs = put-kind (recordFrom k (suc i) ls xs) (l .field) (getD xs i 0) ∙ record-kind k (suc i) ls xs
   where
@@ -59,3 +61,33 @@ pub read-fits : (r : StepRecord) → Fits16 r → (f : Field) → read r f < 2 ^
 read-fits r h unitField = h .unit
 read-fits r h otherField = h .other
 read-fits r h slotField = h .slot
+
+-- ---- the other way: a record of values, one for each letter, has these values in its letters' fields
+-- n entries from entry i on
+abbrev entriesFrom : ℕ → ℕ → List ℕ → List ℕ
+entriesFrom zero i xs = []
+entriesFrom (suc n) i xs = getD xs i 0 ∷ entriesFrom n (suc i) xs
+
+entries-all : (n i : ℕ) (xs : List ℕ) → length xs ≡ i + n → entriesFrom n i xs ≡ drop i xs
+entries-all zero i xs h = sym (drop-of-length-le xs {i = i} (omega (arith, h)))
+entries-all (suc n) i xs h = rw (drop-cons xs i 0 (omega (arith, h)), entries-all n (suc i) xs (omega (arith, h)))
+
+pub values-back : (k : ℕ) (xs : List ℕ) (a : Action) → length xs ≡ length (letters a) → valuesOf (recordFrom k 0 (letters a) xs) (letters a) ≡ xs
+values-back k xs Unknown h = entries-all 0 0 xs h
+values-back k xs Start h = entries-all 1 0 xs h
+values-back k xs Send h = entries-all 3 0 xs h
+values-back k xs Request h = entries-all 2 0 xs h
+values-back k xs Deliver h = entries-all 1 0 xs h
+values-back k xs Rest h = entries-all 1 0 xs h
+values-back k xs Tick h = entries-all 1 0 xs h
+values-back k xs Release h = entries-all 2 0 xs h
+
+-- and it can be handed over where they can
+put-fits : (r : StepRecord) → Fits16 r → (f : Field) (x : ℕ) → x < 2 ^ 16 → Fits16 (put r f x)
+put-fits r h unitField x l = record { kind = h .kind; unit = l; other = h .other; slot = h .slot }
+put-fits r h otherField x l = record { kind = h .kind; unit = h .unit; other = l; slot = h .slot }
+put-fits r h slotField x l = record { kind = h .kind; unit = h .unit; other = h .other; slot = l }
+
+pub record-fits : (k i : ℕ) (ls : List Letter) (xs : List ℕ) → k < 2 ^ 16 → ((j : ℕ) → getD xs j 0 < 2 ^ 16) → Fits16 (recordFrom k i ls xs)
+record-fits k i [] xs l h = record { kind = l; unit = omega arith; other = omega arith; slot = omega arith }
+record-fits k i (m ∷ ls) xs l h = put-fits (recordFrom k (suc i) ls xs) (record-fits k (suc i) ls xs l h) (m .field) (getD xs i 0) (h i)

@@ -1,7 +1,9 @@
 pub mod WordLaws
 pub mod KindLaws
 pub mod LineLaws
+pub mod AcceptedLaws
 pub mod TabLaws
 pub mod LetterLaws
 pub mod RoundTrip
 pub mod ParentLaws
+pub mod OneToOne

@@ -8,16 +8,17 @@ use native.Mathlib.Omega.{arith}
 use lib.Dec.{leb}
 use borrow.Author.Tests.{le-leb, lt-leb}
 use lib.ListN.{length, drop, getD, length-drop}
-use Rattle.rules.specs.Facts.{test, judge}
+use Rattle.rules.specs.Facts.{test, Claims, judge}
 use Rattle.rules.specs.Actions.{actionOf, kinds}
 use Rattle.rules.specs.declared.Action.{Action}
 use Rattle.rules.specs.declared.Action.the-variants.{Unknown, Start, Send, Request, Deliver, Rest, Tick, Release}
-use Rattle.rules.proofs.JudgeLaws.{Numbered}
+use Rattle.rules.proofs.FactLaws.{asked, judge-passed}
+use Rattle.rules.proofs.JudgeLaws.{Numbered, numberOf, number-claims}
 use Rattle.fields.specs.Fields.{tab, upTo, fieldOf, fieldCount}
 use Rattle.numbers.specs.Numbers.{fieldsOf, fieldsAt, values, FieldCheck, fieldChecks, firstFailed, refusalOf, padded, room, numbersOf, numbersAt}
 use Rattle.numbers.specs.declared.Numbers.{Numbers}
 use Rattle.numbers.proofs.PlaceLaws.{fields-split, fields-count}
-use Rattle.numbers.proofs.NumberLaws.{numbers-all, numbers-list, values-length, padded-get}
+use Rattle.numbers.proofs.NumberLaws.{numbers-list, values-length, padded-get}
 use Rattle.script.specs.Words.{wordNumber}
 use Rattle.script.specs.Lines.{arguments, checkOf, rightPlace, rightCount, recordBy, readingBy, reading}
 use Rattle.script.specs.declared.Reading.{Reading}
@@ -59,6 +60,17 @@ fields-accept (c ∷ cs) x n z = by-test (c .passes) (fields-accept cs x (n .1))
     by-test true f q = f q
     by-test false f q = absurd (omega (arith, n .0, q))
 
+-- by its number as by its facts
+fields-number : (cs : List FieldCheck) → numberOf (map checkOf cs) ≡ firstFailed cs
+fields-number [] = refl
+fields-number (c ∷ cs) = ap (λ (k : ℕ). cond (c .passes) k (c .number)) (fields-number cs)
+
+pub fields-fine : (fs : List (List ℕ)) → Claims (asked (map checkOf (fieldChecks fs))) → refusalOf fs ≡ 0
+fields-fine fs h = sym (fields-number (fieldChecks fs)) ∙ judge-passed (λ k. k) (map checkOf (fieldChecks fs)) 0 h
+
+pub fields-pass : (fs : List (List ℕ)) → refusalOf fs ≡ 0 → Claims (asked (map checkOf (fieldChecks fs)))
+fields-pass fs e = number-claims (map checkOf (fieldChecks fs)) (omega arith) (fields-number (fieldChecks fs) ∙ e)
+
 -- ---- the numbers that are found behind the word, from its tab on
 pub behind-word : (l : List ℕ) {at : ℕ} → at ≡ length (fieldOf 0 l) + 1 → fieldsAt at l ≡ arguments l
 unfolding fieldOf
@@ -83,7 +95,7 @@ module _ (l : List ℕ) {at : ℕ} (place : at ≡ length (fieldOf 0 l) + 1) {n 
 
     value : (i : ℕ) → i < room → getD (n .list) i 0 ≡ getD (values (arguments l)) i 0
     value i h =
-        let list : n .list ≡ padded room (values (arguments l)) = ap (λ (x : Numbers). x .list) found ∙ numbers-list (arguments l) (numbers-all (arguments l) none-refused) in
+        let list : n .list ≡ padded room (values (arguments l)) = ap (λ (x : Numbers). x .list) found ∙ numbers-list (arguments l) none-refused in
         ap (λ (vs : List ℕ). getD vs i 0) list ∙ padded-get room (values (arguments l)) i h
 
     pub opens-found : (k : ℕ) → k ≡ 0 → Opens (getD (n .list) 0 0) (getD (n .list) 1 0) (n .count - 2) ≡ readingBy k (values (arguments l))

@@ -1,80 +1,40 @@
 -- The parents of a line that opens a board: their number is told, they are the numbers behind M and d, and all of them are kept.
-use mathlib.Core.Path.{_≡_, refl, sym, ap, subst, _∙_}
-use mathlib.Core.Bool.{Bool, true, false, cond, false≢true}
+use mathlib.Core.Path.{_≡_, refl, sym, ap, _∙_}
+use mathlib.Core.Bool.{Bool, true, false, cond}
 use mathlib.Core.List.{List, []}
 use Prim.Native.Nat.{ℕ, zero, suc, _+_, _-_, _≤_}
 use native.Mathlib.Omega.{arith}
 use lib.ListN.{length, take, drop, replicate, length-drop}
 use lib.Seq.{drop-drop}
-use Rattle.rules.specs.Facts.{Claim, Claims}
-use Rattle.rules.proofs.FactLaws.{asked, judge-passed}
-use Rattle.rules.proofs.JudgeLaws.{Numbered, Judged, passed, failed, judged}
-use Rattle.fields.specs.Fields.{tab, endFrom, fieldOf, fieldStart, fieldCount}
-use Rattle.numbers.specs.Numbers.{fieldsOf, fieldsAt, allNumbers, values, padded, room, numbersAt}
+use Rattle.fields.specs.Fields.{tab, endFrom, fieldOf, fieldStart}
+use Rattle.numbers.specs.Numbers.{fieldsOf, fieldsAt, values, padded, room, refusalOf, numbersAt}
 use Rattle.numbers.specs.declared.Numbers.{Numbers}
 use Rattle.numbers.proofs.PlaceLaws.{fields-after}
-use Rattle.numbers.proofs.NumberLaws.{numbers-drop, numbers-list, numbers-fit, values-drop, values-length, padded-take, padded-none}
+use Rattle.numbers.proofs.NumberLaws.{fine-drop, numbers-all, numbers-list, numbers-fit, values-drop, values-length, padded-take, padded-none}
 use Rattle.script.specs.Words.{wordNumber}
-use Rattle.script.specs.Lines.{arguments, rightCount, lineChecks, readingBy, reading, isOpening, parentsOf, boardLine}
+use Rattle.script.specs.Lines.{arguments, readingBy, reading, isOpening, parentsOf, boardLine}
 use Rattle.script.specs.declared.BoardLine.{BoardLine}
 use Rattle.script.specs.declared.Reading.{Reading}
-use Rattle.script.specs.declared.Reading.the-variants.{Opens, Refused}
+use Rattle.script.specs.declared.Reading.the-variants.{Opens}
+use Rattle.script.proofs.AcceptedLaws.{accepted-opening, accepted-opens, opens-many}
 
--- ---- what a line that opens a board passed
-record OpensLine (l : List ℕ) : Type 0 where
-  short : length l ≤ 255
-  many : 3 ≤ fieldCount l
-  numbers : allNumbers (arguments l) ≡ true
-
-opens-word : (k : ℕ) (vs : List ℕ) → isOpening (readingBy k vs) ≡ true → k ≡ 0
-opens-word zero vs e = refl
-opens-word (suc k) vs e = absurd (false≢true e)
-
+-- ---- what a line that opens a board says
 opens-count : (k : ℕ) (vs : List ℕ) {m d n : ℕ} → readingBy k vs ≡ Opens m d n → n ≡ length vs - 2
 opens-count zero vs e = cc
 opens-count (suc k) vs e = let z : _≡_ {A = ℕ} 0 1 = cc in absurd (omega arith)
 
 module _ (l : List ℕ) where
-  line-numbered : Numbered (lineChecks true l)
-  line-numbered = omega arith
-
-  abbrev said : Reading
-  said = readingBy (wordNumber (fieldOf 0 l)) (values (arguments l))
-
-  line-judged : Judged Refused (lineChecks true l) said
-  line-judged = judged Refused (lineChecks true l) said line-numbered
-
-  said-passed : Claims (asked (lineChecks true l)) → reading true l ≡ said
-  unfolding reading
-  said-passed c = judge-passed Refused (lineChecks true l) said c
-
-  opens-line : isOpening (reading true l) ≡ true → OpensLine l
-  unfolding reading
-  opens-line e = by-judgement line-judged
-    where
-      by-judgement : Judged Refused (lineChecks true l) said → OpensLine l
-      by-judgement (passed c) = record {
-        short = c .0;
-        many = subst (λ (k : ℕ). Claim (rightCount k (fieldCount l))) (opens-word (wordNumber (fieldOf 0 l)) (values (arguments l)) (ap isOpening (sym (said-passed c)) ∙ e)) (c .1 .1 .1 .0);
-        numbers = c .1 .1 .1 .1 .0;
-      }
-      by-judgement (failed k p q) = absurd (false≢true (sym (ap isOpening q) ∙ e))
-
   parents-told : {m d n : ℕ} → reading true l ≡ Opens m d n → length (parentsOf l) ≡ n
-  unfolding reading parentsOf
-  parents-told {m} {d} {n} e = by-judgement line-judged
-    where
-      by-judgement : Judged Refused (lineChecks true l) said → length (drop 2 (values (arguments l))) ≡ n
-      by-judgement (passed c) = length-drop 2 (values (arguments l)) ∙ sym (opens-count (wordNumber (fieldOf 0 l)) (values (arguments l)) (sym (said-passed c) ∙ e))
-      by-judgement (failed k p q) = let z : _≡_ {A = ℕ} 0 1 = cc in absurd (omega arith)
+  unfolding parentsOf
+  parents-told e = length-drop 2 (values (arguments l)) ∙ sym (opens-count (wordNumber (fieldOf 0 l)) (values (arguments l)) (sym (accepted-opens true l e .says) ∙ e))
 
 -- ---- its parents stand behind the tab of field 2
 module _ (l : List ℕ) (opens : isOpening (reading true l) ≡ true) {start end : ℕ} (s : start ≡ fieldStart 2 l) (t : end ≡ endFrom tab start l) where
   behind : drop 2 (arguments l) ≡ fieldsAt (end + 1) l
-  behind = drop-drop 2 1 (fieldsOf l) ∙ fields-after 2 l (opens-line l opens .many) s t
+  behind = drop-drop 2 1 (fieldsOf l) ∙ fields-after 2 l (opens-many true l opens) s t
 
-  numbers : allNumbers (fieldsAt (end + 1) l) ≡ true
-  numbers = ap allNumbers (sym behind) ∙ numbers-drop 2 (arguments l) (opens-line l opens .numbers)
+  fine : refusalOf (fieldsAt (end + 1) l) ≡ 0
+  fine = ap refusalOf (sym behind) ∙ fine-drop 2 (arguments l) (accepted-opening true l opens .fine)
 
   parents-are : parentsOf l ≡ values (fieldsAt (end + 1) l)
   unfolding parentsOf
@@ -82,10 +42,10 @@ module _ (l : List ℕ) (opens : isOpening (reading true l) ≡ true) {start end
 
   pub parents-found : {n : Numbers} → n ≡ numbersAt (end + 1) l → n .list ≡ padded room (parentsOf l)
   unfolding numbersAt
-  parents-found e = ap (λ (x : Numbers). x .list) e ∙ numbers-list (fieldsAt (end + 1) l) numbers ∙ ap (padded room) (sym parents-are)
+  parents-found e = ap (λ (x : Numbers). x .list) e ∙ numbers-list (fieldsAt (end + 1) l) fine ∙ ap (padded room) (sym parents-are)
 
   fits : length (parentsOf l) ≤ room
-  fits = omega (arith, ap length parents-are, values-length (fieldsAt (end + 1) l), numbers-fit (end + 1) l (opens-line l opens .short) numbers)
+  fits = omega (arith, ap length parents-are, values-length (fieldsAt (end + 1) l), numbers-fit (end + 1) l (accepted-opening true l opens .short) (numbers-all (fieldsAt (end + 1) l) fine))
 
 -- ---- a first line with its parents
 module _ (l : List ℕ) where

@@ -19,16 +19,16 @@ use Rattle.placing.specs.declared.Wrote.the-variants.{Count}
 use Rattle.placing.proofs.WriteLaws.{wrote-count, written-fits}
 use Rattle.decimal.specs.Spelling.{spelled}
 use Rattle.fields.specs.Fields.{tab, countOf, fieldOf, fieldCount}
-use Rattle.numbers.specs.Numbers.{fieldsOf, allNumbers, values}
+use Rattle.numbers.specs.Numbers.{fieldsOf, values, refusalOf}
 use Rattle.numbers.proofs.PlaceLaws.{fields-split, fields-count}
-use Rattle.numbers.proofs.JoinLaws.{Small, fields-tabbed, numbers-tabbed, values-tabbed}
+use Rattle.numbers.proofs.JoinLaws.{Small, fields-tabbed, fine-tabbed, values-tabbed}
 use Rattle.script.specs.Words.{words, placeOf, wordNumber}
 use Rattle.script.specs.Lines.{arguments, rightCount, lineChecks, readingBy, reading}
 use Rattle.script.specs.Writing.{lettersOf, stepLine, stepText, stepWrote, stepWritten}
 use Rattle.script.specs.RoundTrips.{RoundTrip}
 use Rattle.script.specs.declared.Reading.the-variants.{Asks, Refused}
 use Rattle.script.proofs.KindLaws.{by-kind, known-range}
-use Rattle.script.proofs.LineLaws.{asks}
+use Rattle.script.proofs.LineLaws.{asks, fields-pass}
 use Rattle.script.proofs.LetterLaws.{letters-small, line-short}
 
 -- ---- the rows: each word has its number and no tab, each kind its letters
@@ -69,8 +69,8 @@ module _ (r : StepRecord) (l : 1 ≤ r .kind) (u : r .kind ≤ kinds) (h : Fits1
   line-count : fieldCount (stepLine r) ≡ suc (length (letters (actionOf (r .kind))))
   line-count = sym (fields-count (stepLine r)) ∙ ap length line-fields ∙ ap suc (length-map ns spelled ∙ values-length r (letters (actionOf (r .kind))))
 
-  line-numbers : allNumbers (arguments (stepLine r)) ≡ true
-  line-numbers = ap (λ (fs : List (List ℕ)). allNumbers (drop 1 fs)) line-fields ∙ numbers-tabbed ns small
+  line-fine : refusalOf (arguments (stepLine r)) ≡ 0
+  line-fine = ap (λ (fs : List (List ℕ)). refusalOf (drop 1 fs)) line-fields ∙ fine-tabbed ns small
 
   line-values : values (arguments (stepLine r)) ≡ ns
   line-values = ap (λ (fs : List (List ℕ)). values (drop 1 fs)) line-fields ∙ values-tabbed ns small
@@ -78,7 +78,7 @@ module _ (r : StepRecord) (l : 1 ≤ r .kind) (u : r .kind ≤ kinds) (h : Fits1
   line-passes : Claims (asked (lineChecks false (stepLine r)))
   line-passes =
       let w = line-word in
-      (omega (arith, line-short r l u h), (omega (arith, line-word, u), (omega (arith, line-word, l), (rw line-word (count-right (r .kind) (fieldCount (stepLine r)) l line-count), (line-numbers, tt)))))
+      (omega (arith, line-short r l u h), (omega (arith, line-word, u), (omega (arith, line-word, l), (rw line-word (count-right (r .kind) (fieldCount (stepLine r)) l line-count), fields-pass (arguments (stepLine r)) line-fine))))
 
   line-says : readingBy (wordNumber (fieldOf 0 (stepLine r))) (values (arguments (stepLine r))) ≡ Asks (used r)
   unfolding used
@@ -98,13 +98,23 @@ module _ (r : StepRecord) (e : isKnown (actionOf (r .kind)) ≡ true) (at n : �
   unfolding stepWritten
   known-written = rw e
 
-  line-stands : stepWrote r at out ≡ Count n → take (n - 1) (drop at (stepWritten r at out)) ≡ stepLine r
-  line-stands w =
-      let c = wrote-count (stepText r) at out (sym known-wrote ∙ w) in
-      let behind : List ℕ = drop (at + length (stepText r)) out in
-      let text : drop at (stepWritten r at out) ≡ stepText r ++ behind
-      = ap (drop at) (known-written ∙ written-fits (stepText r) at out (c .1) ∙ sets-eq (stepText r) out at (c .1) ∙ append-assoc (take at out) (stepText r) behind) ∙ drop-at (take at out) (stepText r ++ behind) at (length-take-le at out (omega (arith, c .1))) in
-      ap (take (n - 1)) (text ∙ append-assoc (stepLine r) (10 ∷ []) behind) ∙ take-at (stepLine r) (10 ∷ behind) (n - 1) (omega (arith, c .0, length-append (stepLine r) (10 ∷ [])))
+  module _ (w : stepWrote r at out ≡ Count n) where
+    counted : (n ≡ length (stepText r)) × (at + length (stepText r) ≤ length out)
+    counted = wrote-count (stepText r) at out (sym known-wrote ∙ w)
+
+    text-behind : drop at (stepWritten r at out) ≡ stepText r ++ drop (at + length (stepText r)) out
+    text-behind =
+        let behind : List ℕ = drop (at + length (stepText r)) out in
+        ap (drop at) (known-written ∙ written-fits (stepText r) at out (counted .1) ∙ sets-eq (stepText r) out at (counted .1) ∙ append-assoc (take at out) (stepText r) behind)
+        ∙ drop-at (take at out) (stepText r ++ behind) at (length-take-le at out (omega (arith, counted .1)))
+
+    pub text-stands : take n (drop at (stepWritten r at out)) ≡ stepText r
+    text-stands = ap (take n) text-behind ∙ take-at (stepText r) (drop (at + length (stepText r)) out) n (omega (arith, counted .0))
+
+    line-stands : take (n - 1) (drop at (stepWritten r at out)) ≡ stepLine r
+    line-stands =
+        let behind : List ℕ = drop (at + length (stepText r)) out in
+        ap (take (n - 1)) (text-behind ∙ append-assoc (stepLine r) (10 ∷ []) behind) ∙ take-at (stepLine r) (10 ∷ behind) (n - 1) (omega (arith, counted .0, length-append (stepLine r) (10 ∷ [])))
 
 pub round-trip : RoundTrip
 round-trip r e h =

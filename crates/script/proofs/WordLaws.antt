@@ -1,9 +1,11 @@
 -- The words of a script: compared byte by byte, and numbered by the first that a word is.
 use mathlib.Core.Path.{_≡_, refl, sym, _∙_}
-use mathlib.Core.Bool.{Bool, true, false}
-use mathlib.Core.List.{List, _∷_}
-use Prim.Native.Nat.{ℕ, suc, _+_}
+use mathlib.Core.Bool.{Bool, true, false, cond}
+use mathlib.Core.List.{List, [], _∷_}
+use Prim.Native.Nat.{ℕ, suc, _+_, _<_}
 use native.Mathlib.Nat.{add-zero, add-suc, suc-add}
+use native.Mathlib.Omega.{arith}
+use lib.ListN.{length, getD}
 use Rattle.rules.specs.Facts.{sameList}
 use Rattle.rules.proofs.FactLaws.{true-not-false, same-itself, same-is}
 use Rattle.script.specs.Words.{placeOf}
@@ -21,3 +23,13 @@ module _ (w v : List ℕ) (vs : List (List ℕ)) {t : Bool} (says : (t ≡ true 
   pub passed : t ≡ false → n ≡ suc j + placeOf w vs
   unfolding placeOf
   passed e = left ∙ rw (missed e (sameList w v) refl, add-suc, suc-add)
+
+-- ---- the other way: a word that has a place among the words is the one at its place
+pub word-at : (w : List ℕ) (vs : List (List ℕ)) → placeOf w vs < length vs → getD vs (placeOf w vs) [] ≡ w
+unfolding placeOf
+word-at w [] h = absurd (omega arith)
+word-at w (v ∷ vs) h = by-test (sameList w v) refl h (word-at w vs)
+  where
+    by-test : (t : Bool) → sameList w v ≡ t → cond t 0 (suc (placeOf w vs)) < suc (length vs) → (placeOf w vs < length vs → getD vs (placeOf w vs) [] ≡ w) → getD (v ∷ vs) (cond t 0 (suc (placeOf w vs))) [] ≡ w
+    by-test true e l f = sym (same-is w v e)
+    by-test false e l f = f (omega (arith, l))

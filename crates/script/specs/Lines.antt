@@ -34,7 +34,7 @@ rightPlace false w = atMost 1 w
 abbrev pub checkOf : FieldCheck → Check
 checkOf c = check (holds (c .passes)) (c .number)
 
--- 21 line over 255 bytes, 22 unknown word, 25, 23 wrong count of fields, then 24 of the number fields: in this order
+-- 21 line over 255 bytes, 22 unknown word, 25, 23 wrong count of fields, then 28 (M-101) and 24 of the number fields: in this order
 abbrev pub lineChecks : Bool → List ℕ → List Check
 lineChecks first l =
     check (atMost (length l) 255) 21

@@ -69,7 +69,7 @@ fn accepted_steps(n: u16, m: u16, length: usize) -> Vec<Step> {
     steps
 }
 
-/// A script of so many bytes: the largest board, then such steps. Zeros before the last number fill it up.
+/// A script of so many bytes: the largest board, then such steps. A last line that is no step fills it up.
 pub fn script(bytes: usize) -> Vec<u8> {
     let mut script = b"board\t256\t1".to_vec();
     for unit in 1..64 {
@@ -84,8 +84,6 @@ pub fn script(bytes: usize) -> Vec<u8> {
         }
         script.extend(&line[..count]);
     }
-    let last_number = script.iter().rposition(|&byte| byte == b'\t').expect("every line has a tab") + 1;
-    let missing = bytes - script.len();
-    script.splice(last_number..last_number, std::iter::repeat_n(b'0', missing));
+    script.resize(bytes, b'x');
     script
 }

@@ -2,10 +2,12 @@
 //! implementation can be compared with it.
 //!
 //! * [`Board`]: opening, soundness, depth, finished, the seven steps, a run.
-//! * [`read_line`], [`field`], [`read_number`], [`write_step`]: the script.
+//! * [`read_line`], [`field`], [`is_padded`], [`read_number`], [`write_step`]:
+//!   the script.
 //! * [`list`]: the listing of a whole script, bytes to bytes.
 //!
-//! Every refusal is the number that the scope document gives it, see [`refusal`].
+//! Every refusal is the number that the scope document or a change request
+//! gives it, see [`refusal`].
 
 mod board;
 mod listing;
@@ -21,6 +23,6 @@ pub use listing::{
     HEADING, SCRIPT_LIMIT,
 };
 pub use script::{
-    field, field_count, read_line, read_number, write_step, Record, LINE_LIMIT, WORDS,
+    field, field_count, is_padded, read_line, read_number, write_step, Record, LINE_LIMIT, WORDS,
 };
 pub use step::{share, Step};

@@ -1,4 +1,5 @@
-//! The refusal numbers of the scope document. 0 is no refusal.
+//! The refusal numbers of the scope document and of the change requests after
+//! it. 0 is no refusal.
 
 pub type Refusal = u16;
 
@@ -18,6 +19,7 @@ pub const NOT_A_NUMBER: Refusal = 24;
 pub const BOARD_MISPLACED: Refusal = 25;
 pub const SCRIPT_TOO_LONG: Refusal = 26;
 pub const NO_ROOM: Refusal = 27;
+pub const PADDED_NUMBER: Refusal = 28;
 
 // From the state.
 pub const UNSOUND: Refusal = 30;

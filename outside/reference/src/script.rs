@@ -59,7 +59,14 @@ pub fn field(line: &[u8], index: usize) -> &[u8] {
         .unwrap_or(&line[line.len()..])
 }
 
-/// A number of one or more digits, at most 65,535. [24]
+/// Whether a field is two or more digits and nothing else, the first of them
+/// 0 (M-101).
+pub fn is_padded(field: &[u8]) -> bool {
+    field.len() > 1 && field[0] == b'0' && field.iter().all(u8::is_ascii_digit)
+}
+
+/// A number of one or more digits, at most 65,535. Leading zeros are read: a
+/// line with a padded number is refused before its numbers are read. [24]
 pub fn read_number(field: &[u8]) -> Result<u16, Refusal> {
     if field.is_empty() {
         return Err(NOT_A_NUMBER);
@@ -78,7 +85,7 @@ pub fn read_number(field: &[u8]) -> Result<u16, Refusal> {
 }
 
 /// Reads one line, without its byte 10. `first` says whether it is the line
-/// that must open the board. [21, 22, 25, 23, 24]
+/// that must open the board. [21, 22, 25, 23, 28, 24]
 pub fn read_line(line: &[u8], first: bool) -> Result<Record, Refusal> {
     if line.len() > LINE_LIMIT {
         return Err(LINE_TOO_LONG);
@@ -101,7 +108,12 @@ pub fn read_line(line: &[u8], first: bool) -> Result<Record, Refusal> {
     if !count_fits {
         return Err(FIELD_COUNT);
     }
-    let numbers = line.split(|&byte| byte == b'\t').skip(1).map(read_number);
+    let fields = line.split(|&byte| byte == b'\t').skip(1);
+    // A padded field comes before one that is no number, wherever they stand.
+    if fields.clone().any(is_padded) {
+        return Err(PADDED_NUMBER);
+    }
+    let numbers = fields.map(read_number);
     if opens {
         let mut numbers = numbers.collect::<Result<Vec<u16>, Refusal>>()?;
         let parents = numbers.split_off(2);

@@ -64,6 +64,12 @@ fn first_line() {
     refused(b"board\t1\t256", OUT_OF_RANGE);
     refused(b"board\t1\t0\t1", PARENT_NOT_BELOW);
     refused(b"board\t0\t0\t1", OUT_OF_RANGE);
+    refused(b"board\t01\t0\nstart\t0\n", PADDED_NUMBER);
+    // 28 before 11 and 12.
+    refused(b"board\t00\t0", PADDED_NUMBER);
+    refused(b"board\t257\t00", PADDED_NUMBER);
+    refused(b"board\t1\t0\t01", PADDED_NUMBER);
+    refused(b"board\t1\t00\t1", PADDED_NUMBER);
     refused(&[b'x'; 256], LINE_TOO_LONG);
     let mut board = b"board\t1\t0".to_vec();
     for _ in 0..63 {
@@ -76,13 +82,21 @@ fn first_line() {
     }
     board.extend_from_slice(b"\t0");
     refused(&board, LINE_TOO_LONG);
+    // The longest line that opens a board.
+    let parents: String = (0..63).map(|parent| format!("\t{parent}")).collect();
+    let board = format!("board\t256\t255{parents}");
+    assert_eq!(board.len(), 192);
+    assert_eq!(answers(board.as_bytes()), [0]);
 }
 
 #[test]
 fn later_lines() {
-    let script =
-        b"board\t1\t0\n\nboard\t1\t0\nstart\t0\nstart\t0\r\nstart\nrest\t65536\nrest\t00\n\n";
-    assert_eq!(answers(script), [0, 22, 25, 0, 24, 23, 24, 0, 22]);
+    let script = b"board\t1\t0\n\nboard\t1\t0\nstart\t0\nstart\t0\r\nstart\nrest\t65536\n\
+        rest\t00\nrest\t0\n\n";
+    assert_eq!(answers(script), [0, 22, 25, 0, 24, 23, 24, 28, 0, 22]);
+    // 28 before the step's own 13, 37 and 14.
+    let script = b"board\t1\t0\nstart\t0\nstart\t01\nstart\t00\ndeliver\t01\nrest\t0\n";
+    assert_eq!(answers(script), [0, 0, 28, 28, 28, 0]);
     // After a last byte 10 no further line begins.
     assert_eq!(answers(b"board\t1\t0\n"), [0]);
     assert_eq!(answers(b"board\t1\t0\n\n"), [0, 22]);

@@ -2,6 +2,7 @@
 
 use reference::refusal::*;
 use reference::*;
+use std::collections::HashSet;
 
 #[test]
 fn fields() {
@@ -64,14 +65,27 @@ fn numbers() {
 }
 
 #[test]
+fn padded() {
+    for field in ["00", "01", "09", "000", "065535", "0070000"] {
+        assert!(is_padded(field.as_bytes()), "{field:?}");
+    }
+    for field in ["", "0", "1", "10", "65536", "0x", "00x", "x00", "0 ", "-00"] {
+        assert!(!is_padded(field.as_bytes()), "{field:?}");
+    }
+    assert!(is_padded(&[b'0'; 255]));
+    assert!(!is_padded(&[b'0', 0xb1]));
+}
+
+#[test]
 fn lines_read() {
     for (line, step) in [
         ("start\t1", Step::start(1)),
-        ("send\t1\t02\t65535", Step::send(1, 2, 65_535)),
+        ("send\t1\t20\t65535", Step::send(1, 20, 65_535)),
         ("request\t1\t2", Step::request(1, 2)),
         ("deliver\t300", Step::deliver(300)),
+        ("deliver\t0", Step::deliver(0)),
         ("rest\t1", Step::rest(1)),
-        ("tick\t000", Step::tick(0)),
+        ("tick\t0", Step::tick(0)),
         ("release\t1\t2", Step::release(1, 2)),
     ] {
         let read = read_line(line.as_bytes(), false);
@@ -127,7 +141,35 @@ fn lines_refused() {
         // 23 before 24.
         ("send\tx", false, FIELD_COUNT),
         ("board\tx", true, FIELD_COUNT),
+        // 22, 25 and 23 before 28.
+        ("starts\t00", false, UNKNOWN_WORD),
+        ("00", false, UNKNOWN_WORD),
+        ("start\t00", true, BOARD_MISPLACED),
+        ("board\t01\t0", false, BOARD_MISPLACED),
+        ("start\t00\t0", false, FIELD_COUNT),
+        ("send\t1\t02", false, FIELD_COUNT),
+        ("board\t01", true, FIELD_COUNT),
+        ("start\t00", false, PADDED_NUMBER),
+        ("start\t07", false, PADDED_NUMBER),
+        ("send\t01\t2\t3", false, PADDED_NUMBER),
+        ("send\t1\t02\t3", false, PADDED_NUMBER),
+        ("send\t1\t2\t03", false, PADDED_NUMBER),
+        ("send\t01\t02\t03", false, PADDED_NUMBER),
+        ("board\t01\t0\t0\t0", true, PADDED_NUMBER),
+        ("board\t1\t00\t0\t0", true, PADDED_NUMBER),
+        ("board\t1\t0\t00\t0", true, PADDED_NUMBER),
+        ("board\t1\t0\t0\t00", true, PADDED_NUMBER),
+        // 28 before 24, in one field and whichever field comes first.
+        ("start\t0070000", false, PADDED_NUMBER),
+        ("send\t01\tx\t3", false, PADDED_NUMBER),
+        ("send\tx\t2\t03", false, PADDED_NUMBER),
+        ("send\t\t02\t65536", false, PADDED_NUMBER),
+        ("board\t01\t\t0", true, PADDED_NUMBER),
+        ("board\t\t0\t00", true, PADDED_NUMBER),
         ("start\t", false, NOT_A_NUMBER),
+        ("start\t0x", false, NOT_A_NUMBER),
+        ("start\t00\r", false, NOT_A_NUMBER),
+        ("start\t-01", false, NOT_A_NUMBER),
         ("start\t1\r", false, NOT_A_NUMBER),
         ("start\t65536", false, NOT_A_NUMBER),
         ("send\t1\t2\t", false, NOT_A_NUMBER),
@@ -141,7 +183,7 @@ fn lines_refused() {
     }
     let mut line = b"start\t".to_vec();
     line.resize(LINE_LIMIT, b'0');
-    assert_eq!(read_line(&line, false), Ok(Record::Step(Step::start(0))));
+    assert_eq!(read_line(&line, false), Err(PADDED_NUMBER));
     line.push(b'0');
     // 21 before all.
     assert_eq!(read_line(&line, false), Err(LINE_TOO_LONG));
@@ -173,6 +215,79 @@ fn steps_written() {
         assert!(out.iter().all(|&byte| byte == b'.'));
         assert_eq!(write_step(step, &mut out, 0), Ok(line.len()));
     }
+}
+
+/// Every text of at most `most` of the given bytes.
+fn texts(bytes: &[u8], most: usize) -> Vec<Vec<u8>> {
+    let mut texts = vec![vec![]];
+    let mut longest = 0;
+    for _ in 0..most {
+        let shorter = texts[longest..].to_vec();
+        longest = texts.len();
+        for text in shorter {
+            texts.extend(bytes.iter().map(|&byte| [&text[..], &[byte]].concat()));
+        }
+    }
+    texts
+}
+
+/// What stands behind the word in many lines: one, two or three fields.
+fn rows() -> Vec<Vec<u8>> {
+    let few = texts(b"016x", 2);
+    let mut rows = texts(b"0356x", 6);
+    for first in &few {
+        for second in &few {
+            rows.push([&first[..], second].join(&b'\t'));
+            for third in &few {
+                rows.push([&first[..], second, third].join(&b'\t'));
+            }
+        }
+    }
+    rows
+}
+
+/// A step line with the right count of fields is accepted exactly if each is
+/// how a number is written. It is then, with byte 10 put after it, what the
+/// writer makes of its step.
+#[test]
+fn accepted_lines_are_written_so() {
+    let numbers: HashSet<Vec<u8>> = (0..=65_535).map(|n: u16| n.to_string().into()).collect();
+    let mut accepted = 0;
+    for row in rows() {
+        let mut fields = row.split(|&byte| byte == b'\t');
+        let plain = fields.all(|field| numbers.contains(field));
+        for word in &WORDS[1..] {
+            let mut line = [*word, &row[..]].join(&b'\t');
+            match read_line(&line, false) {
+                Ok(Record::Step(step)) => {
+                    assert!(plain, "{line:?}");
+                    let mut out = [0; 32];
+                    let length = write_step(step, &mut out, 0).unwrap();
+                    line.push(b'\n');
+                    assert_eq!(out[..length], line);
+                    accepted += 1;
+                }
+                answer => assert!(!plain || answer == Err(FIELD_COUNT), "{line:?}"),
+            }
+        }
+    }
+    // Of the texts of one field 935 are numbers, of the few texts 9.
+    assert_eq!(accepted, 4 * 935 + 2 * 9 * 9 + 9 * 9 * 9);
+}
+
+#[test]
+fn accepted_boards_of_the_same_numbers_are_the_same_bytes() {
+    let mut accepted = 0;
+    for row in rows() {
+        let line = [&b"board"[..], &row].join(&b'\t');
+        if let Ok(Record::Board { m, d, parents }) = read_line(&line, true) {
+            let numbers = [&[m, d], &parents[..]].concat();
+            let written: String = numbers.iter().map(|number| format!("\t{number}")).collect();
+            assert_eq!(line, [b"board", written.as_bytes()].concat());
+            accepted += 1;
+        }
+    }
+    assert_eq!(accepted, 9 * 9 + 9 * 9 * 9);
 }
 
 #[test]

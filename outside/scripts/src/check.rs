@@ -7,11 +7,11 @@ const DEBT_LIMIT: u64 = 1 << 40;
 const SCRIPT_LIMIT: usize = 65_535;
 
 /// The refusals of a first line or of a whole script.
-const OPENING: [u64; 8] = [11, 12, 21, 22, 23, 24, 25, 26];
+const OPENING: [u64; 9] = [11, 12, 21, 22, 23, 24, 25, 26, 28];
 /// The answers of the later lines. 36 needs more grants than a script has
 /// room for; 11, 12 and 26 are never theirs.
-const LATER: [u64; 18] = [
-    0, 13, 14, 21, 22, 23, 24, 25, 31, 32, 33, 34, 35, 37, 38, 39, 40, 41,
+const LATER: [u64; 19] = [
+    0, 13, 14, 21, 22, 23, 24, 25, 28, 31, 32, 33, 34, 35, 37, 38, 39, 40, 41,
 ];
 
 /// Checks a listing against its script and names the first fault.
@@ -54,6 +54,8 @@ pub fn check_listing(script: &[u8], listing: &[u8]) -> Result<(), String> {
                 Err(fault("26 does not fit the length of the script"))
             } else if script.is_empty() && answer != 25 {
                 Err(fault("an empty script is refused with 25"))
+            } else if answer == 28 && script_lines.first().is_some_and(|line| is_plain(line)) {
+                Err(fault("28, but no number is padded"))
             } else {
                 Ok(())
             };
@@ -76,6 +78,14 @@ pub fn check_listing(script: &[u8], listing: &[u8]) -> Result<(), String> {
         }
         if number > 0 && !LATER.contains(&answer) {
             return Err(fault("no answer of a later line"));
+        }
+        if answer == 0 && !is_plain(script_line) {
+            return Err(fault(
+                "accepted, but a field is not how a number is written",
+            ));
+        }
+        if answer == 28 && is_plain(script_line) {
+            return Err(fault("28, but no number is padded"));
         }
         if answer != 0 && next_debt != debt {
             return Err(fault("refused, but the debt changed"));
@@ -108,6 +118,12 @@ pub fn check_listing(script: &[u8], listing: &[u8]) -> Result<(), String> {
         return Err(format!("{count} lines for {lines} lines of the script"));
     }
     Ok(())
+}
+
+/// Whether all fields behind the word are numbers without leading zeros.
+fn is_plain(line: &[u8]) -> bool {
+    let mut fields = line.split(|&byte| byte == b'\t').skip(1);
+    fields.all(|field| number_of(field).is_some())
 }
 
 /// A number as a listing writes it: digits without leading zeros.

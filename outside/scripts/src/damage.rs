@@ -77,8 +77,8 @@ fn damage_once(script: &mut Vec<u8>, from: usize, random: &mut Random) {
             let number = number_after(script, line.start).start;
             if line.contains(&number) {
                 let length = LINE_LIMIT + 1 + random.below(2);
-                let zeros = length.saturating_sub(line.len());
-                script.splice(number..number, vec![b'0'; zeros]);
+                let digits = length.saturating_sub(line.len());
+                script.splice(number..number, vec![random.pick(b"0009"); digits]);
             }
         }
         16 => {

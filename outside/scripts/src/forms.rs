@@ -1,5 +1,5 @@
 //! Lines and scripts of special form: board lines, refused lines, lines at
-//! the limit of length, numbers that are none.
+//! the limit of length, numbers that are padded or none.
 
 use crate::random::Random;
 use crate::walker::Walker;
@@ -53,20 +53,42 @@ fn board_of(numbers: &[usize]) -> Vec<u8> {
     line
 }
 
-/// A line with leading zeros in its last field, so that it has `length`
-/// bytes.
-pub fn stretched(fields: &[Vec<u8>], length: usize) -> Vec<u8> {
+/// A line with so many digits before its last number that it has `length`
+/// bytes: zeros, which pad the number, or now and then nines.
+fn stretched(random: &mut Random, fields: &[Vec<u8>], length: usize) -> Vec<u8> {
     let mut line = fields.join(&b'\t');
     if let Some(last) = fields.last() {
-        let zeros = length.saturating_sub(line.len());
+        let digits = length.saturating_sub(line.len());
         let at = line.len() - last.len();
-        line.splice(at..at, vec![b'0'; zeros]);
+        let digit = if random.chance(1, 8) { b'9' } else { b'0' };
+        line.splice(at..at, vec![digit; digits]);
     }
     line
 }
 
-/// The text of a number that mostly is none, or lies at the limit. Several
-/// would be `number` if they wrapped.
+/// A line with a padded number. Now and then a number of it is odd too: one
+/// before the padded one, one behind it, or the padded one itself.
+pub fn padded_line(random: &mut Random, fields: &[Vec<u8>]) -> Vec<u8> {
+    let mut fields = fields.to_vec();
+    let last = fields.len() - 1;
+    if random.chance(1, 8) {
+        let field = random.within(1, last);
+        fields[field] = odd_number(random, &fields[field]);
+    }
+    let field = random.within(1, last);
+    fields[field] = padded(random, &fields[field]);
+    fields.join(&b'\t')
+}
+
+/// A number with zeros before it, mostly few.
+fn padded(random: &mut Random, number: &[u8]) -> Vec<u8> {
+    let most = random.pick(&[1, 6, 6, 230]);
+    let zeros = vec![b'0'; random.within(1, most)];
+    [&zeros[..], number].concat()
+}
+
+/// The text of a number that mostly is none, or lies at the limit, or is
+/// padded. Several would be `number` if they wrapped.
 pub fn odd_number(random: &mut Random, number: &[u8]) -> Vec<u8> {
     let value: u128 = std::str::from_utf8(number)
         .ok()
@@ -96,7 +118,7 @@ pub fn odd_number(random: &mut Random, number: &[u8]) -> Vec<u8> {
             (0..digits).map(|_| b'0' + random.below(10) as u8).collect()
         }
         19 => "65537".into(),
-        20 => [&vec![b'0'; random.within(1, 230)][..], number].concat(),
+        20 => padded(random, number),
         _ => random.below(100_000).to_string().into(),
     }
 }
@@ -108,11 +130,14 @@ pub fn refused_line(random: &mut Random, fields: &[Vec<u8>]) -> Vec<u8> {
     let last = fields.len() - 1;
     match random.below(13) {
         // 21, or a line that just fits.
-        0 => return stretched(&fields, LINE_LIMIT + random.pick(&[0, 1, 2, 50])),
+        0 => {
+            let length = LINE_LIMIT + random.pick(&[0, 1, 2, 50]);
+            return stretched(random, &fields, length);
+        }
         1 => return vec![random.byte() | 1; random.pick(&[254, 255, 256, 257, 400])],
         // 22
         2 => return vec![],
-        3 => return odd_word(random, &fields.join(&b'\t')),
+        3 => return odd_word(random, &fields),
         // 25
         4 => return board_line(random),
         5 => {
@@ -122,7 +147,7 @@ pub fn refused_line(random: &mut Random, fields: &[Vec<u8>]) -> Vec<u8> {
         6 => return long_board_line(random),
         // 23
         7 => fields.truncate(random.within(1, last)),
-        8 => fields.push(random.pick(&[&b""[..], b"0", b"1", b"x"]).to_vec()),
+        8 => fields.push(random.pick(&[&b""[..], b"0", b"1", b"x", b"00"]).to_vec()),
         9 => fields.insert(random.within(1, last), vec![]),
         // 24
         _ => {
@@ -135,9 +160,13 @@ pub fn refused_line(random: &mut Random, fields: &[Vec<u8>]) -> Vec<u8> {
     line
 }
 
-/// A line whose word is no word any more.
-fn odd_word(random: &mut Random, line: &[u8]) -> Vec<u8> {
-    let mut line = line.to_vec();
+/// A line whose word is no word any more, now and then with a padded number.
+fn odd_word(random: &mut Random, fields: &[Vec<u8>]) -> Vec<u8> {
+    let mut line = if random.chance(1, 4) {
+        padded_line(random, fields)
+    } else {
+        fields.join(&b'\t')
+    };
     match random.below(8) {
         0 => line[0] = line[0].to_ascii_uppercase(),
         1 => line.insert(0, random.pick(b" \t\r\0x")),
@@ -173,8 +202,16 @@ pub fn script(random: &mut Random) -> Vec<u8> {
 fn first_line(random: &mut Random) -> Vec<u8> {
     let mut line = special_board_line(random);
     // A second fault, to see which of the two is named.
-    if random.chance(1, 5) {
-        let tails: [&[u8]; 5] = [b"\t", b"\tx", b"\t65536", b"\t65535", b"\r"];
+    if random.chance(1, 4) {
+        let tails: [&[u8]; 7] = [
+            b"\t",
+            b"\tx",
+            b"\t65536",
+            b"\t65535",
+            b"\r",
+            b"\t00",
+            b"\t065536",
+        ];
         line.extend_from_slice(random.pick(&tails));
     }
     line
@@ -182,48 +219,29 @@ fn first_line(random: &mut Random) -> Vec<u8> {
 
 fn special_board_line(random: &mut Random) -> Vec<u8> {
     let good = board_line(random);
-    match random.below(18) {
+    match random.below(20) {
         // 25
         0 => {
             let word = random.pick(&WORDS[1..]);
-            let tail: [&[u8]; 4] = [b"", b"\t0", b"\t0\t0\t0", b"\tx"];
+            let tail: [&[u8]; 5] = [b"", b"\t0", b"\t0\t0\t0", b"\tx", b"\t00"];
             [word, random.pick(&tail)].concat()
         }
         // 22
         1 => vec![],
-        2 => odd_word(random, &good),
+        2 => odd_word(random, &fields_of(&good)),
         // 11, 12, and both
-        3 => board_of(&[random.pick(&[0, 257, 1000, 65_535]), random.below(256)]),
-        4 => board_of(&[
-            random.within(1, 256),
-            random.pick(&[255, 256, 257, 65_535]),
-            random.below(2),
-        ]),
-        5 => {
-            let units = random.within(1, 20);
-            let mut numbers = vec![random.within(1, 4), random.within(0, 4)];
-            numbers.extend((1..=units).map(|unit| random.below(unit)));
-            let wrong = random.within(1, units);
-            numbers[wrong + 1] = random.pick(&[wrong, wrong + 1, 64, 65_535]);
-            board_of(&numbers)
-        }
-        6 => board_of(&[random.pick(&[0, 1, 257]), random.pick(&[0, 256]), 1]),
-        // Any count of parents that a line can hold, and some more.
-        7 | 8 => {
-            let parents = random.within(0, 126);
-            let mut numbers = vec![random.within(1, 9), random.within(0, 9)];
-            numbers.resize(parents + 2, 0);
-            board_of(&numbers)
-        }
-        9 => {
-            let parents = random.within(60, 66);
-            let mut numbers = vec![random.within(1, 9), random.within(0, 9)];
-            numbers.extend((0..parents).map(|unit| random.below(unit + 1)));
-            board_of(&numbers)
-        }
+        3..=9 => misfit_board_line(random),
         // 23
         10 => {
-            let short: [&[u8]; 5] = [b"board", b"board\t", b"board\t4", b"board\tx", b"board\t0"];
+            let short: [&[u8]; 7] = [
+                b"board",
+                b"board\t",
+                b"board\t4",
+                b"board\tx",
+                b"board\t0",
+                b"board\t00",
+                b"board\t04",
+            ];
             random.pick(&short).to_vec()
         }
         // 24
@@ -237,14 +255,63 @@ fn special_board_line(random: &mut Random) -> Vec<u8> {
         14 => [&good[..], b"\r"].concat(),
         // 21, or a line that just fits.
         15 => vec![random.pick(b"xb0"); random.pick(&[254, 255, 256, 300])],
-        _ => long_board_line(random),
+        16 | 17 => long_board_line(random),
+        // 28, alone, or mostly with 11 or 12
+        18 => padded_line(random, &fields_of(&good)),
+        _ => {
+            let misfit = misfit_board_line(random);
+            padded_line(random, &fields_of(&misfit))
+        }
     }
 }
 
-/// A board line with leading zeros, mostly one byte or more too long.
+/// A board line that is refused by 11 or 12, or by both, or that just fits.
+fn misfit_board_line(random: &mut Random) -> Vec<u8> {
+    match random.below(7) {
+        0 => board_of(&[random.pick(&[0, 257, 1000, 65_535]), random.below(256)]),
+        1 => board_of(&[
+            random.within(1, 256),
+            random.pick(&[255, 256, 257, 65_535]),
+            random.below(2),
+        ]),
+        2 => {
+            let units = random.within(1, 20);
+            let mut numbers = vec![random.within(1, 4), random.within(0, 4)];
+            numbers.extend((1..=units).map(|unit| random.below(unit)));
+            let wrong = random.within(1, units);
+            numbers[wrong + 1] = random.pick(&[wrong, wrong + 1, 64, 65_535]);
+            board_of(&numbers)
+        }
+        3 => board_of(&[random.pick(&[0, 1, 257]), random.pick(&[0, 256]), 1]),
+        // Any count of parents that a line can hold, and some more.
+        4 | 5 => {
+            let parents = random.within(0, 126);
+            let mut numbers = vec![random.within(1, 9), random.within(0, 9)];
+            numbers.resize(parents + 2, 0);
+            board_of(&numbers)
+        }
+        _ => {
+            let parents = random.within(60, 66);
+            let mut numbers = vec![random.within(1, 9), random.within(0, 9)];
+            numbers.extend((0..parents).map(|unit| random.below(unit + 1)));
+            board_of(&numbers)
+        }
+    }
+}
+
+/// A board line with a stretched number or too many parents, mostly one byte
+/// or more too long. The longest that is accepted has 192 bytes.
 fn long_board_line(random: &mut Random) -> Vec<u8> {
     let length = random.pick(&[254, 255, 256, 257, 600]);
-    stretched(&fields_of(&board_line(random)), length)
+    let mut line = board_line(random);
+    if random.chance(2, 3) {
+        return stretched(random, &fields_of(&line), length);
+    }
+    let parents = (length - line.len()) / 2;
+    line.extend_from_slice(&b"\t1".repeat(parents));
+    // One byte may be missing: the last parent is 10 then.
+    line.resize(length, b'0');
+    line
 }
 
 fn fields_of(line: &[u8]) -> Vec<Vec<u8>> {

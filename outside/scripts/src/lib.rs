@@ -28,12 +28,12 @@ use walker::Walker;
 /// nothing else.
 pub fn script(seed: u64, index: u64) -> Vec<u8> {
     let mut random = Random::new(seed, index);
-    match random.below(1000) {
-        0..=3 => full_size(&mut random),
-        4 | 5 => descent(&mut random),
-        6..=649 => walk(&mut random),
-        650..=709 => forms::script(&mut random),
-        710..=734 => forms::soup(&mut random),
+    match random.below(2000) {
+        0..=8 => full_size(&mut random),
+        9..=12 => descent(&mut random),
+        13..=1284 => walk(&mut random),
+        1285..=1426 => forms::script(&mut random),
+        1427..=1476 => forms::soup(&mut random),
         _ => {
             let mut script = walk(&mut random);
             damage::damage(&mut script, &mut random);
@@ -74,18 +74,19 @@ fn descent(random: &mut Random) -> Vec<u8> {
     walker.into_script()
 }
 
-/// A script at the limit of length or just over it.
+/// A script at the limit of length, just under it or over it.
 fn full_size(random: &mut Random) -> Vec<u8> {
-    let length = match random.below(8) {
-        0..=4 => SCRIPT_LIMIT,
-        5..=6 => SCRIPT_LIMIT + 1,
+    let length = match random.below(9) {
+        0 => SCRIPT_LIMIT - 1,
+        1..=5 => SCRIPT_LIMIT,
+        6..=7 => SCRIPT_LIMIT + 1,
         _ => SCRIPT_LIMIT + random.within(2, 3_000),
     };
     let shape = random.below(12);
     let mut walker = Walker::new(random);
     match shape {
         // The rest are empty lines, as many as a script can have.
-        0 => walker.walk_to(2_000),
+        0 if length >= SCRIPT_LIMIT => walker.walk_to(2_000),
         // The last line is cut off.
         1..=3 => walker.walk_to(length),
         _ => {

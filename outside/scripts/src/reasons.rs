@@ -1,12 +1,20 @@
 //! Every reason to refuse a line or a step, told without regard to the order
 //! of the checks, to see that scripts put that order to the test.
 
-use reference::{read_number, Board, Kind, State, Step, LINE_LIMIT, WORDS};
+use reference::{is_padded, read_number, Board, Kind, State, Step, LINE_LIMIT, WORDS};
 use std::ops::RangeInclusive;
 
 /// Two reasons to refuse a step that can hold at once: the word, the one that
-/// is checked first, the other.
-pub const STEP_PAIRS: [(u16, u16, u16); 30] = [
+/// is checked first, the other. 28 is its line's, and the other is what the
+/// step without the padding would get.
+pub const STEP_PAIRS: [(u16, u16, u16); 37] = [
+    (Step::START, 28, 13),
+    (Step::SEND, 28, 13),
+    (Step::REQUEST, 28, 13),
+    (Step::DELIVER, 28, 14),
+    (Step::REST, 28, 13),
+    (Step::TICK, 28, 13),
+    (Step::RELEASE, 28, 13),
     (Step::START, 13, 37),
     (Step::SEND, 13, 14),
     (Step::SEND, 13, 31),
@@ -77,27 +85,39 @@ pub fn step_reasons(board: &Board, step: Step) -> Vec<u16> {
 
 /// Two reasons to refuse a line that can hold at once: whether it is the
 /// first line, the reason that is checked first, the other.
-pub const LINE_PAIRS: [(bool, u16, u16); 20] = [
+pub const LINE_PAIRS: [(bool, u16, u16); 32] = [
     (true, 21, 22),
+    (true, 21, 28),
     (true, 21, 24),
     (true, 21, 11),
+    (true, 22, 28),
     (true, 22, 24),
     (true, 25, 23),
+    (true, 25, 28),
     (true, 25, 24),
+    (true, 23, 28),
     (true, 23, 24),
     (true, 23, 11),
+    (true, 28, 24),
+    (true, 28, 11),
+    (true, 28, 12),
     (true, 24, 11),
     (true, 24, 12),
     (true, 11, 12),
     (false, 21, 22),
     (false, 21, 25),
     (false, 21, 23),
+    (false, 21, 28),
     (false, 21, 24),
+    (false, 22, 28),
     (false, 22, 24),
     (false, 25, 23),
+    (false, 25, 28),
     (false, 25, 24),
     (false, 25, 12),
+    (false, 23, 28),
     (false, 23, 24),
+    (false, 28, 24),
 ];
 
 /// Every reason that a line has to be refused but those of a step's own, in
@@ -105,6 +125,7 @@ pub const LINE_PAIRS: [(bool, u16, u16); 20] = [
 pub fn line_reasons(line: &[u8], first: bool) -> Vec<u16> {
     let fields: Vec<&[u8]> = line.split(|&byte| byte == b'\t').collect();
     let word = WORDS.iter().position(|known| *known == fields[0]);
+    // A padded number is read too: what it says may be a reason of its own.
     let numbers: Vec<_> = fields[1..].iter().map(|field| read_number(field)).collect();
     let outside = |place: usize, range: RangeInclusive<u16>| match numbers.get(place) {
         Some(Ok(number)) => !range.contains(number),
@@ -120,6 +141,7 @@ pub fn line_reasons(line: &[u8], first: bool) -> Vec<u16> {
     reason(21, line.len() > LINE_LIMIT);
     reason(22, word.is_none());
     reason(25, word.is_some() && (word == Some(0)) != first);
+    reason(28, fields[1..].iter().any(|field| is_padded(field)));
     reason(24, numbers.iter().any(Result::is_err));
     let count = numbers.len();
     match word {
@@ -137,4 +159,15 @@ pub fn line_reasons(line: &[u8], first: bool) -> Vec<u16> {
         None => (),
     }
     reasons
+}
+
+/// A line without the zeros that pad its numbers.
+pub fn unpadded(line: &[u8]) -> Vec<u8> {
+    let fields = line.split(|&byte| byte == b'\t').map(|mut field| {
+        while is_padded(field) {
+            field = &field[1..];
+        }
+        field
+    });
+    fields.collect::<Vec<_>>().join(&b'\t')
 }

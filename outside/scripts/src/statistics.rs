@@ -1,18 +1,19 @@
 //! What a set of scripts has met on the reference board.
 
-use crate::reasons::{line_reasons, step_reasons, LINE_PAIRS, STEP_PAIRS};
+use crate::reasons::{line_reasons, step_reasons, unpadded, LINE_PAIRS, STEP_PAIRS};
 use reference::{
-    read_line, script_lines, walk, Board, Kind, Record, Slot, State, Step, FULL_WEIGHT, WORDS,
+    is_padded, read_line, read_number, script_lines, walk, Board, Kind, Record, Slot, State, Step,
+    FULL_WEIGHT, WORDS,
 };
 use std::collections::BTreeMap;
 use std::fmt;
 
 /// Every number that a script can meet: as the refusal of its first line or
 /// of the whole script, and as the answer of a later line.
-pub const REACHABLE: ([u16; 8], [u16; 18]) = (
-    [11, 12, 21, 22, 23, 24, 25, 26],
+pub const REACHABLE: ([u16; 9], [u16; 19]) = (
+    [11, 12, 21, 22, 23, 24, 25, 26, 28],
     [
-        0, 13, 14, 21, 22, 23, 24, 25, 31, 32, 33, 34, 35, 37, 38, 39, 40, 41,
+        0, 13, 14, 21, 22, 23, 24, 25, 28, 31, 32, 33, 34, 35, 37, 38, 39, 40, 41,
     ],
 );
 
@@ -58,18 +59,25 @@ const EVENTS: [&str; 38] = [
     "debt of 2^26 or more after a step",
 ];
 
-/// Forms that a line or a script can have, counted in whatever stands after
-/// an accepted first line.
-const FORMS: [&str; 9] = [
-    "accepted line of 255 bytes",
+/// Forms that a line can have, counted in first lines and in later ones. The
+/// padded numbers are those of lines that are refused by 28, and a field that
+/// is no number is not padded.
+const FORMS: [&str; 15] = [
+    "accepted line with the number 0",
     "line of 255 bytes",
+    "line of 255 bytes, padded number",
     "line of 256 bytes",
-    "accepted line with leading zeros",
+    "padded number, the first of several",
+    "padded number, between others",
+    "padded number, the last of several",
+    "padded number above 65,535",
+    "padded number, a field behind it is no number",
+    "padded number, a field before it is no number",
+    "field of 0 and what is no digit, refused by 24",
     "line with a carriage return at its end",
     "line with a byte above 127",
     "line with the number 65535",
     "line with the number 65536",
-    "script without a last byte 10",
 ];
 
 pub struct Statistics {
@@ -84,13 +92,18 @@ pub struct Statistics {
     /// Of later lines, by answer, and by word: unknown words last.
     pub answers: [[u64; 64]; 9],
     events: [u64; EVENTS.len()],
-    forms: [u64; FORMS.len()],
+    /// Of first lines, and of later ones.
+    forms: [[u64; FORMS.len()]; 2],
+    /// Later lines refused by 28 whose step would else be accepted.
+    padded_alone: u64,
+    /// Scripts with an accepted first line and no byte 10 at their end.
+    not_ended: u64,
     /// By step's kind, answer and a further reason to refuse the step.
     pairs: BTreeMap<(u16, u16, u16), u64>,
     /// The same for lines, by whether the line is the first.
     line_pairs: BTreeMap<(bool, u16, u16), u64>,
-    /// By length: 0, to 100, 400, 1,500, 8,000, 65,534, 65,535, more.
-    lengths: [u64; 8],
+    /// By length, as the bounds say.
+    lengths: [u64; LENGTHS.len()],
     /// By n, M and d: see `fmt`.
     sizes: [[u64; 6]; 3],
     /// Finishes in one script, the most.
@@ -108,10 +121,12 @@ impl Default for Statistics {
             openings: [0; 64],
             answers: [[0; 64]; 9],
             events: [0; EVENTS.len()],
-            forms: [0; FORMS.len()],
+            forms: [[0; FORMS.len()]; 2],
+            padded_alone: 0,
+            not_ended: 0,
             pairs: BTreeMap::new(),
             line_pairs: BTreeMap::new(),
-            lengths: [0; 8],
+            lengths: [0; LENGTHS.len()],
             sizes: [[0; 6]; 3],
             most_finishes: 0,
             largest_debt: 0,
@@ -119,7 +134,19 @@ impl Default for Statistics {
     }
 }
 
-const LENGTH_BOUNDS: [usize; 7] = [0, 100, 400, 1_500, 8_000, 65_534, 65_535];
+const LENGTH_BOUNDS: [usize; 9] = [0, 100, 400, 1_500, 8_000, 65_533, 65_534, 65_535, 65_536];
+const LENGTHS: [&str; 10] = [
+    "0",
+    "1-100",
+    "101-400",
+    "401-1500",
+    "1501-8000",
+    "8001-65533",
+    "65534",
+    "65535",
+    "65536",
+    "above",
+];
 const SIZE_BOUNDS: [[usize; 5]; 3] = [[1, 5, 16, 32, 63], [1, 4, 16, 64, 255], [0, 1, 4, 20, 254]];
 
 fn class(bounds: &[usize], value: usize) -> usize {
@@ -135,6 +162,7 @@ impl Statistics {
         let mut before = Board::BLANK;
         let mut finishes = 0;
         let outcome = walk(script, |number, line, answer, board| {
+            self.see_form(line, number == 0, answer);
             if number == 0 {
                 let sizes = [board.n, board.m, board.d];
                 for (place, size) in sizes.into_iter().enumerate() {
@@ -145,7 +173,6 @@ impl Statistics {
             }
             self.lines += 1;
             self.empty_lines += u64::from(line.is_empty());
-            self.see_form(line, answer);
             let word = line.split(|&byte| byte == b'\t').next();
             let word = WORDS.iter().position(|known| Some(*known) == word);
             self.answers[word.unwrap_or(WORDS.len())][usize::from(answer)] += 1;
@@ -158,6 +185,9 @@ impl Statistics {
             } else {
                 self.see_refused_line(line, false, answer);
             }
+            if answer == 28 {
+                self.see_padded(line, &before);
+            }
             if answer != 0 {
                 return;
             }
@@ -169,30 +199,63 @@ impl Statistics {
         });
         let refusal = outcome.err().unwrap_or(0);
         match (refusal, script_lines(script).next()) {
-            (0, _) => self.forms[FORMS.len() - 1] += u64::from(!script.ends_with(b"\n")),
+            (0, _) => self.not_ended += u64::from(!script.ends_with(b"\n")),
             (26, _) | (_, None) => (),
-            (_, Some(line)) => self.see_refused_line(line, true, refusal),
+            (_, Some(line)) => {
+                self.see_form(line, true, refusal);
+                self.see_refused_line(line, true, refusal);
+            }
         }
         self.openings[usize::from(refusal)] += 1;
         self.most_finishes = self.most_finishes.max(finishes);
     }
 
-    fn see_form(&mut self, line: &[u8], answer: u16) {
-        let fields = || line.split(|&byte| byte == b'\t').skip(1);
-        let has = |number: &[u8]| fields().any(|field| field == number);
-        let zeros = fields().any(|field| field.len() > 1 && field[0] == b'0');
+    fn see_form(&mut self, line: &[u8], first: bool, answer: u16) {
+        let fields: Vec<&[u8]> = line.split(|&byte| byte == b'\t').skip(1).collect();
+        let has = |number: &[u8]| fields.contains(&number);
+        let zeros = fields
+            .iter()
+            .any(|field| field.len() > 1 && field[0] == b'0');
+        let refused = answer == 28;
+        let counts = |field: &&[u8]| refused && is_padded(field);
+        let padded: Vec<bool> = fields.iter().map(counts).collect();
+        let none = |place: usize| !padded[place] && read_number(fields[place]).is_err();
+        // Where the first and the last padded number stand, if there are any.
+        let count = fields.len();
+        let from = padded.iter().position(|&padded| padded).unwrap_or(count);
+        let to = padded.iter().rposition(|&padded| padded).unwrap_or(0);
         let seen = [
-            line.len() == 255 && answer == 0,
+            answer == 0 && has(b"0"),
             line.len() == 255,
+            line.len() == 255 && refused,
             line.len() == 256,
-            zeros && answer == 0,
+            count > 1 && padded[0],
+            count > 2 && padded[1..count - 1].contains(&true),
+            count > 1 && padded[count - 1],
+            (0..count).any(|place| padded[place] && read_number(fields[place]).is_err()),
+            (from..count).any(none),
+            (0..to).any(none),
+            answer == 24 && zeros,
             line.last() == Some(&b'\r'),
             !line.is_ascii(),
             has(b"65535"),
             has(b"65536"),
         ];
-        for (count, seen) in self.forms.iter_mut().zip(seen) {
+        for (count, seen) in self.forms[usize::from(!first)].iter_mut().zip(seen) {
             *count += u64::from(seen);
+        }
+    }
+
+    /// Counts what a later line's padded number hides: that its step would be
+    /// accepted, or what would refuse it.
+    fn see_padded(&mut self, line: &[u8], board: &Board) {
+        let Ok(Record::Step(step)) = read_line(&unpadded(line), false) else {
+            return;
+        };
+        let reasons = step_reasons(board, step);
+        self.padded_alone += u64::from(reasons.is_empty());
+        for also in reasons {
+            *self.pairs.entry((step.kind, 28, also)).or_default() += 1;
         }
     }
 
@@ -349,8 +412,23 @@ impl Statistics {
                 missing.push(format!("answer {number}"));
             }
         }
+        for (name, count) in LENGTHS.iter().zip(self.lengths) {
+            if count == 0 {
+                missing.push(format!("script of {name} bytes"));
+            }
+        }
+        let [first, later] = &self.forms;
+        for (name, &count) in FORMS.iter().zip(first) {
+            if count == 0 {
+                missing.push(format!("first line: {name}"));
+            }
+        }
         let events = EVENTS.iter().zip(&self.events);
-        for (name, &count) in events.chain(FORMS.iter().zip(&self.forms)) {
+        let others = [
+            (&"padded line of a step to accept", &self.padded_alone),
+            (&"script without a last byte 10", &self.not_ended),
+        ];
+        for (name, &count) in events.chain(FORMS.iter().zip(later)).chain(others) {
             if count == 0 {
                 missing.push(name.to_string());
             }
@@ -384,17 +462,7 @@ impl fmt::Display for Statistics {
         let (scripts, bytes, lines) = (self.scripts, self.bytes, self.lines);
         writeln!(f, "{scripts} scripts, {bytes} bytes")?;
         writeln!(f, "lengths of scripts:")?;
-        let names = [
-            "0",
-            "1-100",
-            "101-400",
-            "401-1500",
-            "1501-8000",
-            "8001-65534",
-            "65535",
-            "above",
-        ];
-        for (name, count) in names.iter().zip(self.lengths) {
+        for (name, count) in LENGTHS.iter().zip(self.lengths) {
             writeln!(
                 f,
                 "  {name:<12}{count:>10}  {:6.2} %",
@@ -451,10 +519,15 @@ impl fmt::Display for Statistics {
         for (event, count) in EVENTS.iter().zip(self.events) {
             writeln!(f, "  {event:<46}{count:>10}")?;
         }
-        writeln!(f, "forms:")?;
-        for (form, count) in FORMS.iter().zip(self.forms) {
-            writeln!(f, "  {form:<46}{count:>10}")?;
+        writeln!(f, "forms of later lines and of first lines:")?;
+        let [first, later] = self.forms;
+        for ((form, first), later) in FORMS.iter().zip(first).zip(later) {
+            writeln!(f, "  {form:<46}{later:>10}{first:>10}")?;
         }
+        let alone = self.padded_alone;
+        writeln!(f, "padded lines of steps that would be accepted: {alone}")?;
+        let not_ended = self.not_ended;
+        writeln!(f, "scripts without a last byte 10: {not_ended}")?;
         writeln!(f, "refused steps with a further reason to refuse them:")?;
         for (&(kind, answer, also), count) in &self.pairs {
             let word = String::from_utf8_lossy(WORDS[usize::from(kind)]);

@@ -105,8 +105,8 @@ pub struct Walker<'r> {
     mood_left: usize,
     /// How many lines of a hundred are meant to be refused.
     refused_share: usize,
-    /// How many lines of a hundred get leading zeros.
-    zeros_share: usize,
+    /// How many lines of a hundred get a padded number.
+    padded_share: usize,
 }
 
 impl<'r> Walker<'r> {
@@ -136,7 +136,7 @@ impl<'r> Walker<'r> {
             mood: Mood::Spread,
             mood_left: 0,
             refused_share: random.pick(&[0, 3, 8, 20]),
-            zeros_share: random.pick(&[0, 0, 2, 10]),
+            padded_share: random.pick(&[0, 0, 0, 1]),
             random,
         }
     }
@@ -150,6 +150,9 @@ impl<'r> Walker<'r> {
         while self.text.len() < length {
             if self.random.chance(self.refused_share, 100) {
                 let line = self.refused_line();
+                self.add(&line);
+            } else if self.random.chance(self.padded_share, 100) {
+                let line = self.padded_line();
                 self.add(&line);
             } else {
                 let step = self.accepted_step();
@@ -182,26 +185,23 @@ impl<'r> Walker<'r> {
     }
 
     /// Adds accepted steps so that the script, which has some hundred bytes
-    /// less, has exactly `length` bytes.
+    /// less, has exactly `length` bytes. No step's line can be stretched, so
+    /// a line of no word fills the gap before the last of them.
     pub fn fill_to(&mut self, length: usize) {
-        while length - self.text.len() > 200 {
+        while length - self.text.len() > 40 {
             let step = self.accepted_step();
             self.add_step(step);
         }
         let step = self.accepted_step();
-        let line = forms::stretched(&fields(step), length - self.text.len() - 1);
-        self.add(&line);
+        let last = fields(step).join(&b'\t').len() + 1;
+        let gap = length - self.text.len() - last;
+        self.add(&vec![b'x'; gap - 1]);
+        self.add_step(step);
         assert_eq!(self.text.len(), length);
     }
 
     fn add_step(&mut self, step: Step) {
-        let mut fields = fields(step);
-        if self.random.chance(self.zeros_share, 100) {
-            let field = self.random.within(1, fields.len() - 1);
-            let zeros = self.random.within(1, 6);
-            fields[field].splice(0..0, vec![b'0'; zeros]);
-        }
-        self.add(&fields.join(&b'\t'));
+        self.add(&fields(step).join(&b'\t'));
     }
 
     fn add(&mut self, line: &[u8]) {
@@ -334,11 +334,7 @@ impl<'r> Walker<'r> {
     /// A line that mostly is refused.
     fn refused_line(&mut self) -> Vec<u8> {
         if self.random.chance(1, 4) {
-            let step = if self.random.chance(3, 4) {
-                self.accepted_step()
-            } else {
-                self.careless_step()
-            };
+            let step = self.mostly_accepted_step();
             return forms::refused_line(self.random, &fields(step));
         }
         let step = match self.aimed_step() {
@@ -346,6 +342,20 @@ impl<'r> Walker<'r> {
             None => self.careless_step(),
         };
         fields(step).join(&b'\t')
+    }
+
+    /// A line with a padded number. Mostly its step would be accepted.
+    fn padded_line(&mut self) -> Vec<u8> {
+        let step = self.mostly_accepted_step();
+        forms::padded_line(self.random, &fields(step))
+    }
+
+    fn mostly_accepted_step(&mut self) -> Step {
+        if self.random.chance(3, 4) {
+            self.accepted_step()
+        } else {
+            self.careless_step()
+        }
     }
 
     /// A step refused for the reason that it aims at, where the board allows

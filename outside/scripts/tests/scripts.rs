@@ -109,6 +109,19 @@ fn faults_are_found() {
         assert!(check(&good.replacen(part, wrong, 1)).is_err(), "{wrong:?}");
     }
 
+    // A padded number is refused by 28, and nothing else is.
+    let script = b"board\t1\t0\nstart\t00\nstart\t0\n";
+    let good = "step|answer|debt|state\n0|0|0|finished\n1|28|0|finished\n2|0|16777216|working\n";
+    let check = |listing: &str| check_listing(script, listing.replace('|', "\t").as_bytes());
+    assert_eq!(check(good), Ok(()));
+    for (part, wrong) in [
+        ("1|28|0|finished\n2|0|", "1|0|16777216|working\n2|37|"),
+        ("2|0|16777216|working", "2|28|0|finished"),
+    ] {
+        assert!(good.contains(part));
+        assert!(check(&good.replacen(part, wrong, 1)).is_err(), "{wrong:?}");
+    }
+
     let refused = |number| format!("step\tanswer\tdebt\tstate\n0\t{number}\t0\trefused\n");
     let check = |length, number| check_listing(&vec![b'x'; length], refused(number).as_bytes());
     assert!(check(0, 25).is_ok());
@@ -120,4 +133,11 @@ fn faults_are_found() {
     assert!(check(65_535, 26).is_err());
     assert!(check(65_536, 26).is_ok());
     assert!(check(65_536, 21).is_err());
+    assert!(check_listing(b"board\t01\t0", refused(28).as_bytes()).is_ok());
+    assert!(check_listing(b"board\t0\t0", refused(28).as_bytes()).is_err());
+    assert!(check_listing(
+        b"board\t01\t0",
+        b"step\tanswer\tdebt\tstate\n0\t0\t0\tfinished\n"
+    )
+    .is_err());
 }
