@@ -12,7 +12,7 @@ use Rattle.decimal.specs.Spelling.{digitsUpTo, digitCount}
 pub power-pos : (k : ℕ) → 1 ≤ 10 ^ k
 power-pos k = one-le-pow k 10 (omega arith)
 
-power-le : {i j : ℕ} → i ≤ j → 10 ^ i ≤ 10 ^ j
+pub power-le : {i j : ℕ} → i ≤ j → 10 ^ i ≤ 10 ^ j
 power-le h = pow-le-pow-right (omega arith) h
 
 module _ (n : ℕ) where

@@ -1,5 +1,5 @@
-pub mod Table
 pub mod CountLaws
+pub mod BitLaws
 pub mod SpellLaws
 pub mod TurnLaws
 pub mod ReadLaws

@@ -17,31 +17,6 @@ pub enum Number {
     Refused(u16),
 }
 
-// The powers of ten that a number of 64 bits can reach. A function copies the table before its loop: where a
-// constant is named it is laid out anew.
-const POWERS: [u64; 20] = [
-    1,
-    10,
-    100,
-    1_000,
-    10_000,
-    100_000,
-    1_000_000,
-    10_000_000,
-    100_000_000,
-    1_000_000_000,
-    10_000_000_000,
-    100_000_000_000,
-    1_000_000_000_000,
-    10_000_000_000_000,
-    100_000_000_000_000,
-    1_000_000_000_000_000,
-    10_000_000_000_000_000,
-    100_000_000_000_000_000,
-    1_000_000_000_000_000_000,
-    10_000_000_000_000_000_000,
-];
-
 // The value stays at most 65,535 from turn to turn, so nothing wraps in a field of any length.
 pub fn read_number(field: &[u8]) -> Number
     ensures { λ r. ⌜ r ≡ numberOf (now (field .entry)) ⌝ }
@@ -68,19 +43,35 @@ pub fn read_number(field: &[u8]) -> Number
     Number::Value(value as u16)
 }
 
-// From the lowest power up: as many turns as digits.
+// 10^k, as the product of k tens and from no table (M-102). 10^20 is no number of 64 bits.
+fn power(k: usize) -> u64
+    requires { ⌜ k < 20 ⌝ }
+    ensures { λ r. ⌜ r ≡ 10 ^ k ⌝ }
+{
+    let mut p: u64 = 1;
+    let mut tens = 0;
+    while tens < k {
+        p = p * 10;
+        tens += 1;
+    }
+    p
+}
+
+// A number of so many bits has k digits or one more, since 1233 / 4096 is a little below the logarithm of 2 to
+// base 10; so one power decides. A loop over the powers would bring all of them back into the image: the compiler
+// unrolls it and works each power out beforehand.
 pub fn digit_count(n: u64) -> usize
     ensures { λ r. ⌜ r ≡ digitCount n ⌝ }
 {
-    let powers = POWERS;
-    let mut k = 1;
-    while k < 20 {
-        if n < powers[k] {
-            return k;
-        }
-        k += 1;
+    if n < 10 {
+        return 1;
     }
-    20
+    let bits = 64 - u64::leading_zeros(n) as usize;
+    let k = bits * 1233 / 4096;
+    if n < power(k) {
+        return k;
+    }
+    k + 1
 }
 
 // The last k digits of n, the most significant first.
@@ -88,13 +79,12 @@ fn spell_in(n: u64, k: usize, out: &mut [u8], at: usize)
     requires { ⌜ (k ≤ 20) × (n < 10 ^ k) × (at + k ≤ length (now out)) ⌝ }
     ensures { λ _. ⌜ now (out .exit) ≡ sets (now (out .entry)) at (spell k n) ⌝ }
 {
-    let powers = POWERS;
     let mut rest = n;
     let mut left = k;
     let mut to = at;
     while left > 0 {
         left -= 1;
-        let p = powers[left];
+        let p = power(left);
         out[to] = b'0' + (rest / p) as u8;
         rest = rest % p;
         to += 1;

@@ -1,65 +1,37 @@
--- `decimal::digit_count` meets its contract: below the power at hand, the number has k digits.
-use mathlib.Core.Path.{_≡_, refl, sym, _∙_}
-use Prim.Native.Nat.{pred, _-_, _≤_}
+-- `decimal::digit_count` meets its contract: the bits leave two counts, and one power decides between them.
+use mathlib.Core.Path.{refl, sym, _∙_}
 use native.Mathlib.Numerals.{add-one}
 use native.Mathlib.Omega.{arith}
 use borrow.Author.Needs.{needs}
-use Rattle.decimal.specs.Spelling.{digitsUpTo}
-use Rattle.decimal.proofs.Table.{power-at}
-use Rattle.decimal.proofs.CountLaws.{count-at, count-here}
+use lib.Count.{leading-le}
+use Rattle.decimal.proofs.CountLaws.{count-exact}
+use Rattle.decimal.proofs.BitLaws.{bits-under, bits-from}
 use Rattle.decimal.proofs.digit_count.Statement.{statement}
 use Rattle.decimal.proofs.digit_count.Tie as tie
 
-abbrev Inv-loop : tie.InvT-loop
-Inv-loop n powers k₀ k = (1 ≤ k) × (k ≤ 20) × (digitsUpTo (pred k) n ≡ k)
+returns : tie.Need-returns
+returns c = sym (count-exact _ 0 (omega arith) (omega arith) (λ some. absurd (omega (arith, some))))
 
-abbrev μ-loop : tie.MeasureT-loop
-μ-loop n powers k₀ k = 20 - k
+cast-bits : tie.Need-cast-bits
+cast-bits c = omega (arith, leading-le 64 (c .before .args .n))
 
-loop-holds : tie.Need-loop-holds Inv-loop μ-loop
-unfolding digitsUpTo
-loop-holds c = (search needs, search needs, refl)
+sub-bits : tie.Need-sub-bits
+sub-bits c = leading-le 64 (c .before .args .n)
 
-mul-if1 : tie.Need-mul-if1 Inv-loop μ-loop
-mul-if1 c = search needs
+mul-k : tie.Need-mul-k
+mul-k c = search needs
 
-array-read-if1 : tie.Need-array-read-if1 Inv-loop μ-loop
-array-read-if1 c = search needs
+power-requires : tie.Need-power-requires
+power-requires c κs = search needs
 
-returns : tie.Need-returns Inv-loop μ-loop
-returns c =
-    let at-loop = c .before .before in
-    let k = at-loop .loop .k in
-    sym (count-here (at-loop .before .args .n) k (omega arith) (omega arith) (omega (arith, power-at k (omega arith))) ∙ at-loop .loop .inv .2)
+returns-2 : tie.Need-returns-2
+returns-2 c = sym (bits-under _ refl _ (omega arith) (omega arith) (omega (arith, c .before .power .ensures)))
 
-add-k : tie.Need-add-k Inv-loop μ-loop
-add-k c = search needs
+add-result : tie.Need-add-result
+add-result c = search needs
 
-loop-less : tie.Need-loop-less Inv-loop μ-loop
-loop-less c = search needs
-
-loop-again : tie.Need-loop-again Inv-loop μ-loop
-loop-again c =
-    let at-loop = c .before .before in
-    let k = at-loop .loop .k in
-    (search needs, search needs, rw add-one (count-at (at-loop .before .args .n) k (omega arith) (omega (arith, power-at k (omega arith)))))
-
-returns-2 : tie.Need-returns-2 Inv-loop μ-loop
-returns-2 c =
-    let last : c .before .loop .k ≡ 20 = omega arith in
-    sym (rw last at (c .before .loop .inv .2))
+returns-3 : tie.Need-returns-3
+returns-3 c = add-one _ ∙ sym (bits-from _ refl _ (omega arith) (omega (arith, c .before .power .ensures)))
 
 pub digit-count-spec : {M : Type 1} → statement M
-digit-count-spec =
-    tie.close
-    (tie.spec
-    Inv-loop
-    μ-loop
-    loop-holds
-    mul-if1
-    array-read-if1
-    returns
-    add-k
-    loop-less
-    loop-again
-    returns-2)
+digit-count-spec = tie.close (tie.spec returns cast-bits sub-bits mul-k power-requires returns-2 add-result returns-3)

@@ -11,17 +11,17 @@ use Rattle.decimal.proofs.spell_in.Statement.{statement}
 use Rattle.decimal.proofs.spell_in.Tie as tie
 
 abbrev Inv-loop : tie.InvT-loop
-Inv-loop n k out₀ at powers rest₀ left₀ to₀ out rest left to =
+Inv-loop n k out₀ at rest₀ left₀ to₀ out rest left to =
     (left ≤ k) × (to + left ≡ at + k) × (length out ≡ length out₀) × (rest < 10 ^ left) × (sets out to (spell left rest) ≡ sets out₀ at (spell k n))
 
 abbrev μ-loop : tie.MeasureT-loop
-μ-loop n k out₀ at powers rest₀ left₀ to₀ out rest left to = left
+μ-loop n k out₀ at rest₀ left₀ to₀ out rest left to = left
 
-abbrev Left : tie.In-loop Inv-loop μ-loop → ℕ
-Left c = c .before .loop .left
+abbrev Left : tie.After-power Inv-loop μ-loop → ℕ
+Left c = c .before .before .loop .left
 
-abbrev Rest : tie.In-loop Inv-loop μ-loop → ℕ
-Rest c = c .before .loop .rest
+abbrev Rest : tie.After-power Inv-loop μ-loop → ℕ
+Rest c = c .before .before .loop .rest
 
 loop-holds : tie.Need-loop-holds Inv-loop μ-loop
 loop-holds c = search needs
@@ -29,26 +29,23 @@ loop-holds c = search needs
 sub-left : tie.Need-sub-left Inv-loop μ-loop
 sub-left c = search needs
 
-mul-p : tie.Need-mul-p Inv-loop μ-loop
-mul-p c = search needs
-
-array-read-p : tie.Need-array-read-p Inv-loop μ-loop
-array-read-p c = search needs
+power-requires : tie.Need-power-requires Inv-loop μ-loop
+power-requires c κs = search needs
 
 div-out : tie.Need-div-out Inv-loop μ-loop
-div-out c = turn-divisor (Left c) (Rest c) (omega arith) (omega arith) (omega arith)
+div-out c = turn-divisor (Left c) (Rest c) _ (omega arith) (c .power .ensures) (omega arith)
 
 cast-out : tie.Need-cast-out Inv-loop μ-loop
-cast-out c = omega (arith, turn-digit (Left c) (Rest c) (omega arith) (omega arith) (omega arith))
+cast-out c = omega (arith, turn-digit (Left c) (Rest c) _ (omega arith) (c .power .ensures) (omega arith))
 
 add-out : tie.Need-add-out Inv-loop μ-loop
-add-out c = omega (arith, turn-digit (Left c) (Rest c) (omega arith) (omega arith) (omega arith))
+add-out c = omega (arith, turn-digit (Left c) (Rest c) _ (omega arith) (c .power .ensures) (omega arith))
 
 slice-write-out : tie.Need-slice-write-out Inv-loop μ-loop
 slice-write-out c = search needs
 
 rem-rest : tie.Need-rem-rest Inv-loop μ-loop
-rem-rest c = turn-divisor (Left c) (Rest c) (omega arith) (omega arith) (omega arith)
+rem-rest c = turn-divisor (Left c) (Rest c) _ (omega arith) (c .power .ensures) (omega arith)
 
 add-to : tie.Need-add-to Inv-loop μ-loop
 add-to c = search needs
@@ -61,8 +58,8 @@ loop-again c = (
   omega arith,
   omega arith,
   simp length-set (omega arith),
-  turn-rest (Left c) (Rest c) (omega arith) (omega arith) (omega arith),
-  turn-sets (Left c) (Rest c) (omega arith) (omega arith) (omega arith) (c .before .loop .out) (c .before .loop .to) ∙ c .before .loop .inv .4,
+  turn-rest _ _ _ (omega arith) (c .power .ensures) (omega arith),
+  turn-sets _ _ _ (omega arith) (c .power .ensures) (omega arith) _ _ ∙ c .before .before .loop .inv .4,
 )
 
 same-length : tie.Need-same-length Inv-loop μ-loop
@@ -82,8 +79,7 @@ spell-in-spec =
     μ-loop
     loop-holds
     sub-left
-    mul-p
-    array-read-p
+    power-requires
     div-out
     cast-out
     add-out
