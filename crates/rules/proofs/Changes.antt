@@ -1,15 +1,17 @@
 -- One law for every step: a change of one unit, one slot and the debt that fits keeps a sound board sound.
-use mathlib.Core.Path.{_≡_, refl, sym, subst}
+use mathlib.Core.Path.{_≡_, refl, sym, subst, _∙_}
+use mathlib.Core.List.{List}
 use Prim.Native.Nat.{ℕ, _+_, _≤_, _<_}
 use native.Mathlib.Omega.{arith}
 use native.Mathlib.Decide.{ℕ-discrete}
 use lib.ListN.{length, getD, set, length-set}
 use lib.Seq.{getD-set-same, getD-set-other, set-getD}
-use Rattle.rules.specs.Facts.{Claims, Each, oneIf}
+use Rattle.rules.specs.Facts.{Claims, Each, oneIf, Check, judge}
 use Rattle.rules.specs.Words.{blankUnit, blankSlot, unitAt, slotAt, ceiling}
 use Rattle.rules.specs.Sound.{stateRow, pendingRow, pendingIn, pending, unitsWeight, slotsWeight, Sound, slotRowOn, kindRowOn, unitRowOn}
 use Rattle.rules.specs.Steps.{changed, applied}
 use Rattle.rules.proofs.FactLaws.{each-of, each-set}
+use Rattle.rules.proofs.JudgeLaws.{judge-map}
 use Rattle.rules.proofs.SumLaws.{sum-set}
 use Rattle.rules.proofs.SoundLaws.{row-of, unit-row, slot-row, pending-row}
 use Rattle.rules.specs.declared.Effect.{Effect}
@@ -105,6 +107,10 @@ slot-change b h u s y debt k l c e w q = record {
 pub refused-applied : (b : Board) (u s k : ℕ) → applied b u s (Refused k) ≡ record { answer = k; board = b }
 unfolding applied
 refused-applied b u s k = rw (set-getD (b .units) u blankUnit, set-getD (b .slots) s blankSlot)
+
+-- so a judged effect, applied anywhere, is the applied effect judged: its refusals leave the board
+pub judged-applied : (b : Board) (u s : ℕ) (cs : List Check) (e : Effect) → applied b u s (judge Refused cs e) ≡ judge (λ k. record { answer = k; board = b }) cs (applied b u s e)
+judged-applied b u s cs e = judge-map (applied b u s) Refused cs e ∙ (λ i. judge (λ k. refused-applied b u s k i) cs (applied b u s e))
 
 abbrev pub FitsEffect : Board → ℕ → ℕ → Effect → Type 0
 FitsEffect b u s (Refused k) = Unit {0}

@@ -1,7 +1,7 @@
--- Judgements: one passes every check or refuses by a number; by its number; under a function; two by the same checks.
+-- Judgements: one passes every check or refuses by a number; by its number; under a function; two by the same checks; of two rows.
 use mathlib.Core.Path.{_≡_, refl, sym, ap, subst, _∙_}
 use mathlib.Core.Bool.{Bool, true, false, cond}
-use mathlib.Core.List.{List, [], _∷_}
+use mathlib.Core.List.{List, [], _∷_, _++_}
 use Prim.Native.Nat.{ℕ, _≤_, _<_}
 use native.Mathlib.Omega.{arith}
 use lib.Dec.{eqb}
@@ -73,3 +73,8 @@ pub judge-same : {A : Type 0} (refused : ℕ → A) (cs : List Check) (x y : A) 
 judge-same refused [] x y h = h tt
 judge-same refused (check g k ∷ cs) x y h =
     cond-same (test g) (judge refused cs x) (judge refused cs y) (refused k) (λ e. judge-same refused cs x y (λ p. h (claimed g e, p)))
+
+-- two rows one after the other
+pub judge-append : {A : Type 0} (refused : ℕ → A) (cs ds : List Check) (result : A) → judge refused (cs ++ ds) result ≡ judge refused cs (judge refused ds result)
+judge-append refused [] ds result = refl
+judge-append refused (check g k ∷ cs) ds result = ap (λ (x : _). cond (test g) x (refused k)) (judge-append refused cs ds result)

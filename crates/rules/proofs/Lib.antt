@@ -18,3 +18,4 @@ pub mod Theorem
 pub mod CaseRows
 pub mod LetterLaws
 pub mod AnswerLaws
+pub mod ExchangeLaws

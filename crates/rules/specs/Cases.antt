@@ -101,6 +101,7 @@ rows =
     ∷ shares 1048577 16384
     ∷ shares 16777216 16384
     ∷ runs 11 0 (0 ∷ 1 ∷ []) (toWeightOne (send 2 0 10 ∷ [])) (allAccepted 15 (33 ∷ [])) Working
+    ∷ runs 11 0 (0 ∷ 1 ∷ []) (toWeightOne (send 2 0 9 ∷ send 1 0 9 ∷ [])) (allAccepted 15 (33 ∷ 34 ∷ [])) Working
     ∷ runs 1 0 [] (start 0 ∷ start 0 ∷ []) (0 ∷ 37 ∷ []) Working
     ∷ runs 1 0 (0 ∷ []) (start 0 ∷ send 0 1 0 ∷ deliver 0 ∷ rest 1 ∷ release 1 0 ∷ []) (allAccepted 5 []) Working
     ∷ runs 1 0 [] (start 0 ∷ rest 0 ∷ []) (0 ∷ 0 ∷ []) Finished

@@ -13,4 +13,5 @@ pub mod Finished
 pub mod Drains
 pub mod Guarantee
 pub mod Runs
+pub mod Exchanges
 pub mod Cases

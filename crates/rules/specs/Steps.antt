@@ -51,13 +51,13 @@ startChecks debt = check (equal debt 0) 37 ∷ []
 abbrev pub startEffect : Effect
 startEffect = OnUnit (record { weight = grant; countdown = 0; state = Active; suspended = false }) grant
 
--- send u v s [13 for u or v, 14, 31, 32, 34, 33]
+-- send u v s [13 for u or v, 14, 31, 32, 33, 34]: 33 before 34 (M-103)
 abbrev pub sendChecks : UnitRecord → Slot → List Check
 sendChecks x y =
     check (holds (isActive (x .state))) 31
     ∷ check (fails (x .suspended)) 32
-    ∷ check (holds (isEmpty (y .kind))) 34
     ∷ check (atMost 2 (x .weight)) 33
+    ∷ check (holds (isEmpty (y .kind))) 34
     ∷ []
 
 abbrev pub sendEffect : ℕ → ℕ → ℕ → UnitRecord → Effect

@@ -1,11 +1,10 @@
 -- Clamped places do no harm on a sound board: where the place checks pass, the clamp is the identity; where one fails, the records are not used.
 use mathlib.Core.Path.{_≡_, sym, ap, _∙_}
 use mathlib.Core.Bool.{cond}
-use mathlib.Core.List.{List}
 use Prim.Native.Nat.{ℕ, min, _<_, _≤_}
 use native.Mathlib.Omega.{arith}
 use lib.Dec.{eqb}
-use Rattle.rules.specs.Facts.{Claims, Check, judge}
+use Rattle.rules.specs.Facts.{Claims, judge}
 use Rattle.rules.specs.Words.{unitAt, slotAt, parentAt}
 use Rattle.rules.specs.Sound.{Sound, kindRowOn}
 use Rattle.rules.specs.Letters.{unitBy, slotOf, placeChecks}
@@ -20,8 +19,8 @@ use Rattle.rules.specs.declared.Board.{Board}
 use Rattle.rules.specs.declared.StepRecord.{StepRecord}
 use Rattle.rules.proofs.FactLaws.{asked, fact-shown}
 use Rattle.rules.proofs.SoundLaws.{slot-row, parent-below}
-use Rattle.rules.proofs.JudgeLaws.{judge-by-number, judge-map, judge-same}
-use Rattle.rules.proofs.Changes.{refused-applied}
+use Rattle.rules.proofs.JudgeLaws.{judge-by-number, judge-same}
+use Rattle.rules.proofs.Changes.{judged-applied}
 use Rattle.rules.proofs.Accepted.{place-numbered}
 
 -- the effect unless the place is refused
@@ -34,10 +33,6 @@ ruleAt b r a u s = recordRule (b .debt) (b .delay) r (unitAt b u) (parentAt b u)
 
 pub placed-effect : (n m : ℕ) (r : StepRecord) (a : Action) (k : ℕ) (e f : Effect) → k ≡ judge (λ j. j) (placeChecks n m r a) 0 → f ≡ unless k e → f ≡ judge Refused (placeChecks n m r a) e
 placed-effect n m r a k e f k-is f-is = f-is ∙ ap (λ (j : ℕ). unless j e) k-is ∙ sym (judge-by-number Refused (placeChecks n m r a) e (place-numbered n m r a))
-
--- a refused effect leaves the board, wherever it is applied
-judged-applied : (b : Board) (u s : ℕ) (cs : List Check) (e : Effect) → applied b u s (judge Refused cs e) ≡ judge (λ k. record { answer = k; board = b }) cs (applied b u s e)
-judged-applied b u s cs e = judge-map (applied b u s) Refused cs e ∙ (λ i. judge (λ k. refused-applied b u s k i) cs (applied b u s e))
 
 module _ (b : Board) (h : Sound b) where
   -- a message's receiver is a unit in use

@@ -42,11 +42,11 @@ pub(crate) fn send(debt: u64, u: u16, v: u16, x: UnitRecord, y: Slot) -> Effect
     if x.suspended {
         return Effect::Refused(32);
     }
-    if !empty {
-        return Effect::Refused(34);
-    }
     if weight < 2 {
         return Effect::Refused(33);
+    }
+    if !empty {
+        return Effect::Refused(34);
     }
     let s = x.share();
     let kept = s.unit;

@@ -119,8 +119,9 @@ impl Board {
         Ok(accepted)
     }
 
-    // Each step makes all its checks, in the order of the scope document, before it
-    // changes anything: a refused step leaves the board as it was.
+    // Each step makes all its checks, in the order of the scope document, for a
+    // send in that of M-103, before it changes anything: a refused step leaves the
+    // board as it was.
 
     /// [13, 37]
     fn start(&mut self, u: u16) -> Result<(), Refusal> {
@@ -134,14 +135,15 @@ impl Board {
         Ok(())
     }
 
-    /// [13 for u or v, 14, 31, 32, 34, 33]
+    /// The scope document has 34 before 33; where both hold, 33 is now the
+    /// answer (M-103). [13 for u or v, 14, 31, 32, 33, 34]
     fn send(&mut self, u: u16, v: u16, s: u16) -> Result<(), Refusal> {
         let unit = self.unit_index(u)?;
         self.unit_index(v)?;
         let slot = self.slot_index(s)?;
         self.must_be_ready(unit)?;
-        self.must_be_empty(slot)?;
         let given = share(self.units[unit].weight)?;
+        self.must_be_empty(slot)?;
         self.units[unit].weight -= given;
         self.slots[slot] = Slot {
             kind: Kind::Work,

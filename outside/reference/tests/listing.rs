@@ -104,6 +104,40 @@ fn later_lines() {
     assert_eq!(answers(b"board\t1\t0\nstart\t0"), [0, 0]);
 }
 
+/// One unit and one slot: what a rest leaves under way is all that comes back.
+#[test]
+fn weight_one_and_the_only_slot_filled() {
+    let mut script = "board|1|0\nstart|0\n".to_string();
+    // 16,384 comes back, then 1,024, then each time half of it, until 2.
+    script += &"send|0|0|0\nrest|0\ndeliver|0\n".repeat(11);
+    script += "send|0|0|0\nsend|0|0|0\nrequest|0|0\nrest|0\nsend|0|0|0\ndeliver|0\n\
+        send|0|0|0\nrequest|0|0\nsend|0|0|0\ndeliver|0\nsend|0|0|0\ndeliver|0\n\
+        send|0|0|0\nsend|0|0|0\n";
+    // Both hold in line 36, where 33 comes before 34 (M-103), and in 43, where
+    // 32 comes before both; a filled slot alone in 48, weight 1 alone in 41.
+    let expected = "\
+        35|0|2|working\n\
+        36|33|2|working\n\
+        37|34|2|working\n\
+        38|0|1|working\n\
+        39|31|1|working\n\
+        40|0|1|working\n\
+        41|33|1|working\n\
+        42|0|1|working\n\
+        43|32|1|working\n\
+        44|0|16777217|working\n\
+        45|32|16777217|working\n\
+        46|0|16777217|working\n\
+        47|0|16777217|working\n\
+        48|34|16777217|working\n";
+    let listing = listing(script.replace('|', "\t").as_bytes()).replace('\t', "|");
+    let lines: Vec<&str> = listing.lines().skip(1).collect();
+    assert!(lines[..35]
+        .iter()
+        .all(|line| line.split('|').nth(1) == Some("0")));
+    assert_eq!(lines[35..], expected.lines().collect::<Vec<_>>());
+}
+
 #[test]
 fn script_length() {
     let mut script = b"board\t1\t0\n".to_vec();

@@ -2,6 +2,7 @@
 
 use reference::refusal::*;
 use reference::*;
+use std::collections::BTreeSet;
 
 fn open(m: u16, d: u16, parents: &[u16]) -> Board {
     let (board, answer) = Board::open(m, d, parents);
@@ -102,9 +103,190 @@ fn send_refused() {
     }
     refuse(&board, Step::send(3, 1, 1), SUSPENDED);
     refuse(&board, Step::send(3, 1, 2), SUSPENDED);
-    refuse(&board, Step::send(2, 1, 1), SLOT_FILLED);
     refuse(&board, Step::send(1, 2, 0), SLOT_FILLED);
     refuse(&board, Step::send(2, 1, 2), WEIGHT_ONE);
+    // 33 before 34 (M-103).
+    refuse(&board, Step::send(2, 1, 1), WEIGHT_ONE);
+}
+
+/// n = 6, M = 5, d = 1, all under unit 0. Unit 1 is rich, 5 idle, the others
+/// have weight 1: 0 is ready, 2 waiting with countdown 1, 3 and 4 suspended.
+/// Slot 0 is 3's request, 1 the supply to 4, 2 work, 3 a return, 4 empty.
+fn starved() -> Board {
+    let mut board = open(5, 1, &[0; 5]);
+    take(&mut board, &[Step::start(1)]);
+    for poor in [0, 2, 3, 4] {
+        take(&mut board, &[Step::send(1, poor, 0), Step::deliver(0)]);
+        // From 16,384 on: 15 shares of 1,024, then ten halves.
+        for _ in 0..25 {
+            take(&mut board, &[Step::send(poor, 1, 0), Step::deliver(0)]);
+        }
+        assert_eq!(board.units[usize::from(poor)].weight, 1);
+    }
+    take(
+        &mut board,
+        &[
+            Step::rest(2),
+            Step::request(3, 0),
+            Step::request(4, 1),
+            Step::deliver(1),
+            Step::send(1, 5, 3),
+            Step::deliver(3),
+            Step::rest(5),
+            Step::tick(5),
+            Step::release(5, 3),
+            Step::send(1, 1, 2),
+        ],
+    );
+    let kinds = [0, 1, 2, 3, 4].map(|slot| board.slots[slot].kind);
+    let expected = [
+        Kind::Request,
+        Kind::Supply,
+        Kind::Work,
+        Kind::Return,
+        Kind::Empty,
+    ];
+    assert_eq!(kinds, expected);
+    board
+}
+
+/// Every slot of `starved` that holds a message.
+const FILLED: [u16; 4] = [0, 1, 2, 3];
+
+#[test]
+fn weight_one_and_a_filled_slot() {
+    let mut board = starved();
+    for other in 0..6 {
+        // Weight 1 alone, a filled slot alone, both: 33 before 34 (M-103).
+        refuse(&board, Step::send(0, other, 4), WEIGHT_ONE);
+        for slot in FILLED {
+            refuse(&board, Step::send(1, other, slot), SLOT_FILLED);
+            refuse(&board, Step::send(0, other, slot), WEIGHT_ONE);
+            // Both hold, and 31 or 32 too. An idle unit has no weight.
+            refuse(&board, Step::send(2, other, slot), NOT_ACTIVE);
+            refuse(&board, Step::send(3, other, slot), SUSPENDED);
+            refuse(&board, Step::send(4, other, slot), SUSPENDED);
+            refuse(&board, Step::send(5, other, slot), NOT_ACTIVE);
+        }
+    }
+    for slot in FILLED {
+        for unit in 0..5 {
+            // Both hold but for unit 1, and there is no v.
+            refuse(&board, Step::send(unit, 6, slot), NO_SUCH_UNIT);
+            refuse(&board, Step::send(unit, 65_535, slot), NO_SUCH_UNIT);
+        }
+        // There is no u, so no weight either.
+        refuse(&board, Step::send(6, 0, slot), NO_SUCH_UNIT);
+        refuse(&board, Step::send(65_535, 0, slot), NO_SUCH_UNIT);
+    }
+    for slot in [5, 256, 65_535] {
+        // There is no slot, so no message either.
+        refuse(&board, Step::send(0, 1, slot), NO_SUCH_SLOT);
+        refuse(&board, Step::send(2, 1, slot), NO_SUCH_SLOT);
+        refuse(&board, Step::send(3, 1, slot), NO_SUCH_SLOT);
+        refuse(&board, Step::send(0, 6, slot), NO_SUCH_UNIT);
+    }
+    // Weight 2 is enough for 34, and an empty slot for a send.
+    board.units[0].weight += 1;
+    board.debt += 1;
+    refuse(&board, Step::send(0, 1, 2), SLOT_FILLED);
+    take(&mut board, &[Step::send(0, 1, 4)]);
+    assert_eq!(board.units[0].weight, 1);
+    // The last empty slot, filled by the unit itself.
+    refuse(&board, Step::send(0, 1, 4), WEIGHT_ONE);
+    refuse(&board, Step::send(1, 0, 4), SLOT_FILLED);
+    // 30 precedes all.
+    board.debt += 1;
+    let before = board.clone();
+    assert_eq!(board.step_checked(Step::send(0, 1, 4)), UNSOUND);
+    assert_eq!(board, before);
+}
+
+/// Every cause to refuse a send, as the scope document tells it, in no order.
+fn send_causes(board: &Board, u: u16, v: u16, s: u16) -> BTreeSet<u16> {
+    let unit = (u < board.n).then(|| board.units[usize::from(u)]);
+    let slot = (s < board.m).then(|| board.slots[usize::from(s)]);
+    [
+        (13, u >= board.n || v >= board.n),
+        (14, s >= board.m),
+        (31, unit.is_some_and(|unit| unit.state != State::Active)),
+        (32, unit.is_some_and(|unit| unit.suspended)),
+        (33, unit.is_some_and(|unit| unit.weight == 1)),
+        (34, slot.is_some_and(|slot| slot.kind != Kind::Empty)),
+    ]
+    .into_iter()
+    .filter_map(|(number, holds)| holds.then_some(number))
+    .collect()
+}
+
+/// Of every send on two boards the first cause in M-103's order is the answer.
+/// The scope document's order gives the same but where just 33 and 34 hold.
+#[test]
+fn sends_by_their_causes() {
+    let mut met = BTreeSet::new();
+    for board in [mixed(), starved()] {
+        for u in (0..=board.n).chain([65_535]) {
+            for v in (0..=board.n).chain([65_535]) {
+                for s in (0..=board.m).chain([65_535]) {
+                    let step = Step::send(u, v, s);
+                    let causes = send_causes(&board, u, v, s);
+                    let first = |order: [u16; 6]| {
+                        let holds = |number: &u16| causes.contains(number);
+                        order.into_iter().find(holds).unwrap_or(ACCEPTED)
+                    };
+                    let answer = first([13, 14, 31, 32, 33, 34]);
+                    if answer == ACCEPTED {
+                        take(&mut board.clone(), &[step]);
+                    } else {
+                        refuse(&board, step, answer);
+                    }
+                    let before = first([13, 14, 31, 32, 34, 33]);
+                    if causes == BTreeSet::from([33, 34]) {
+                        assert_eq!((before, answer), (34, 33), "{step:?}");
+                    } else {
+                        assert_eq!(before, answer, "{step:?}");
+                    }
+                    met.insert(causes);
+                }
+            }
+        }
+    }
+    // All that can hold together with 33 and 34: the unit and the slot exist,
+    // a unit of weight 1 is not idle, a suspended one is active.
+    met.retain(|causes| causes.contains(&33) && causes.contains(&34));
+    let expected: [&[u16]; 6] = [
+        &[13, 31, 33, 34],
+        &[13, 32, 33, 34],
+        &[13, 33, 34],
+        &[31, 33, 34],
+        &[32, 33, 34],
+        &[33, 34],
+    ];
+    let expected = expected.map(|causes| causes.iter().copied().collect());
+    assert_eq!(met, BTreeSet::from(expected));
+}
+
+/// M-103 names the send alone: 41 stays before 34, and so does 40.
+#[test]
+fn request_and_release_keep_their_orders() {
+    let mut board = starved();
+    for slot in FILLED {
+        refuse(&board, Step::request(1, slot), WEIGHT_ABOVE_ONE);
+        refuse(&board, Step::request(0, slot), SLOT_FILLED);
+        refuse(&board, Step::request(2, slot), NOT_ACTIVE);
+        refuse(&board, Step::request(3, slot), SUSPENDED);
+        refuse(&board, Step::release(0, slot), NOT_WAITING);
+        refuse(&board, Step::release(2, slot), COUNTDOWN_ABOVE_ZERO);
+    }
+    refuse(&board, Step::request(1, 4), WEIGHT_ABOVE_ONE);
+    refuse(&board, Step::release(2, 4), COUNTDOWN_ABOVE_ZERO);
+    take(&mut board, &[Step::tick(2)]);
+    for slot in FILLED {
+        refuse(&board, Step::release(2, slot), SLOT_FILLED);
+    }
+    // Neither minds weight 1.
+    take(&mut board.clone(), &[Step::request(0, 4)]);
+    take(&mut board, &[Step::release(2, 4)]);
 }
 
 #[test]

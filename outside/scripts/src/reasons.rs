@@ -6,7 +6,8 @@ use std::ops::RangeInclusive;
 
 /// Two reasons to refuse a step that can hold at once: the word, the one that
 /// is checked first, the other. 28 is its line's, and the other is what the
-/// step without the padding would get.
+/// step without the padding would get. For a send 33 is checked before 34
+/// (M-103).
 pub const STEP_PAIRS: [(u16, u16, u16); 37] = [
     (Step::START, 28, 13),
     (Step::SEND, 28, 13),
@@ -28,7 +29,7 @@ pub const STEP_PAIRS: [(u16, u16, u16); 37] = [
     (Step::SEND, 31, 34),
     (Step::SEND, 32, 33),
     (Step::SEND, 32, 34),
-    (Step::SEND, 34, 33),
+    (Step::SEND, 33, 34),
     (Step::REQUEST, 13, 14),
     (Step::REQUEST, 13, 34),
     (Step::REQUEST, 14, 31),

@@ -1,8 +1,9 @@
 -- `send` meets its contract: each return rewrites with the tests that led to it.
 use mathlib.Core.Path.{_≡_, sym, _∙_}
-use mathlib.Core.Bool.{true}
-use borrow.Author.Tests.{lt-leb}
+use mathlib.Core.Bool.{true, false}
+use borrow.Author.Tests.{le-leb, lt-leb}
 use Prim.Native.Nat.{ℕ}
+use lib.Dec.{leb}
 use Rattle.rules.specs.Words.{isActive, isEmpty}
 use Rattle.rules.specs.Steps.{shared, message, sendChecks, sendEffect}
 use Rattle.rules.specs.declared.Kind.the-variants.{Work}
@@ -31,14 +32,21 @@ active c = said-yes (c .before .before .is-active .ensures) (c .if1 .left)
 returns-2 : tie.Need-returns-2
 returns-2 c = simp (active (c .before), c .if2 .taken)
 
-returns-3 : tie.Need-returns-3
-returns-3 c = simp (active (c .before .before), c .before .if2 .left, said-no (c .before .before .before .is-empty .ensures) (c .if3 .taken))
+-- at the third test the weight decides: below 2, or 2 and above
+light : (c : tie.Then3) → leb 2 (c .before .before .before .before .before .args .x .weight) ≡ false
+light c = lt-leb 2 (c .before .before .before .before .before .args .x .weight) (c .if3 .taken)
 
-empty : (c : tie.Else3) → isEmpty (c .before .before .before .before .before .args .y .kind) ≡ true
-empty c = said-yes (c .before .before .before .is-empty .ensures) (c .if3 .left)
+shareable : (c : tie.Else3) → leb 2 (c .before .before .before .before .before .args .x .weight) ≡ true
+shareable c = le-leb 2 (c .before .before .before .before .before .args .x .weight) (c .if3 .left)
+
+returns-3 : tie.Need-returns-3
+returns-3 c = simp (active (c .before .before), c .before .if2 .left, light c)
 
 returns-4 : tie.Need-returns-4
-returns-4 c = simp (active (c .before .before .before), c .before .before .if2 .left, empty (c .before), lt-leb _ _ (c .if4 .taken))
+returns-4 c = simp (active (c .before .before .before), c .before .before .if2 .left, shareable (c .before), said-no (c .before .before .before .before .is-empty .ensures) (c .if4 .taken))
+
+empty : (c : tie.Else4) → isEmpty (c .before .before .before .before .before .before .args .y .kind) ≡ true
+empty c = said-yes (c .before .before .before .before .is-empty .ensures) (c .if4 .left)
 
 share-requires : tie.Need-share-requires
 share-requires c κs = search needs
@@ -54,7 +62,7 @@ returns-5 c =
     let d = c .before .before .before in
     let a = d .before .before .before .before .before .before .args in
     sent (a .x) (c .before .before .share .result) (c .message .result) (c .before .before .share .ensures) (c .message .ensures)
-    ∙ sym (judge-passed Refused (sendChecks (a .x) (a .y)) (sendEffect (a .debt) (a .u) (a .v) (a .x)) (active (d .before .before .before), (d .before .before .if2 .left, (empty (d .before), (d .if4 .left, tt)))))
+    ∙ sym (judge-passed Refused (sendChecks (a .x) (a .y)) (sendEffect (a .debt) (a .u) (a .v) (a .x)) (active (d .before .before .before), (d .before .before .if2 .left, (d .before .if3 .left, (empty d, tt)))))
 
 pub send-spec : {M : Type 1} → statement M
 send-spec =
