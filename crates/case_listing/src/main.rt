@@ -39,6 +39,15 @@ fn whole_case() {
     );
 }
 
+// Units 2 and 3 give their weight back to unit 1 while it waits, the second time with its countdown at 0; the last four lines are
+// those by which it would finish if its countdown began anew each time.
+fn countdown_goes_on() {
+    show(
+        b"a countdown that goes on",
+        b"board\t2\t2\t0\t1\t1\nstart\t1\nsend\t1\t2\t0\nsend\t1\t3\t1\ndeliver\t0\ndeliver\t1\nrest\t1\nrest\t2\nrest\t3\ntick\t1\ntick\t2\ntick\t2\nrelease\t2\t0\ndeliver\t0\ntick\t1\ntick\t3\ntick\t3\nrelease\t3\t0\ndeliver\t0\nrelease\t1\t0\ndeliver\t0\ntick\t1\ntick\t1\nrelease\t1\t0\ndeliver\t0\n",
+    );
+}
+
 fn lines() {
     show(b"a last line without byte 10", b"board\t1\t0\nstart\t0");
     show(b"no line", b"");
@@ -138,6 +147,7 @@ fn rooms() {
 
 fn main() {
     whole_case();
+    countdown_goes_on();
     lines();
     first_lines();
     later_lines();

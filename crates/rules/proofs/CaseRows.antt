@@ -18,7 +18,7 @@ use Rattle.rules.specs.Events.{Events, afterAll, allAnswers}
 use Rattle.rules.specs.Lists.{steps, after, answers, startBy}
 use Rattle.rules.specs.Finished.{toldFrom}
 use Rattle.rules.specs.Drains.{Quiet, Drain, waitingUnits, returnsUnderWay, drainBound}
-use Rattle.rules.specs.Cases.{Row, shares, opens, runs, Right, AllRight, rows, attainedFrom, attainedBy, BoundAttained, stuckBoard, Stuck, deliver, wholeToRest}
+use Rattle.rules.specs.Cases.{Row, shares, opens, runs, attains, Attained, Right, AllRight, rows, stuckBoard, Stuck, deliver}
 use Rattle.rules.proofs.FactLaws.{true-not-false, same-is, each-claims, each-at, factBy}
 use Rattle.rules.proofs.SoundLaws.{sound-claims, below-or-not}
 use Rattle.rules.proofs.Accepted.{AcceptedAs, shown, step-sound, accepted-as}
@@ -52,53 +52,7 @@ quick-after = same-after steps quickSteps Sound step-keeps-sound (λ b r h. ap (
 quick-answers : (b : Board) (rs : List StepRecord) → Sound b → answers b rs ≡ quickAnswers b rs
 quick-answers = same-answers steps quickSteps Sound step-keeps-sound (λ b r h. ap (λ (o : Outcome). o .board) (step-sound b r h)) (λ b r h. ap (λ (o : Outcome). o .answer) (step-sound b r h))
 
--- ---- a test of a row that computes, and what it shows
-tellsBy : Bool → Verdict → Bool
-tellsBy t Working = not t
-tellsBy t Finished = t
-tellsBy t (Refused k) = false
-
-tells-by : (t : Bool) (v : Verdict) → tellsBy t v ≡ true → cond t Finished Working ≡ v
-unfolding tellsBy
-tells-by true Working e = absurd (true-not-false (sym e))
-tells-by true Finished e = refl
-tells-by true (Refused k) e = absurd (true-not-false (sym e))
-tells-by false Working e = refl
-tells-by false Finished e = absurd (true-not-false (sym e))
-tells-by false (Refused k) e = absurd (true-not-false (sym e))
-
-rowRow : Row → List Fact
-rowRow (shares w given) = equal (share w) given ∷ []
-rowRow (opens m d ps k) = equal (opening m d ps .answer) k ∷ []
-rowRow (runs m d ps rs ks v) =
-    equal (opening m d ps .answer) 0
-    ∷ holds (sameList (quickAnswers (opening m d ps .board) rs) ks)
-    ∷ holds (tellsBy (eqb (quickAfter (opening m d ps .board) rs .debt) 0) v)
-    ∷ []
-
-row-right : (row : Row) → Claims (rowRow row) → Right row
-unfolding rowRow
-row-right (shares w given) c = c .0
-row-right (opens m d ps k) c = c .0
-row-right (runs m d ps rs ks v) c =
-    let f : Board = opening m d ps .board in
-    let h : Sound f = opening-sound m d ps (c .0) .0 in (
-      c .0,
-      quick-answers f rs h ∙ same-is _ ks (c .1 .0),
-      verdict-sound (after f rs) (list-keeps-sound f rs h) ∙ ap (λ (b : Board). toldFrom (b .debt)) (quick-after f rs h) ∙ tells-by _ v (c .1 .1 .0),
-    )
-
-rows-right : (rs : List Row) → Each (λ i row. rowRow row) rs → AllRight rs
-unfolding Each
-rows-right [] c = tt
-rows-right (row ∷ rs) c = (row-right row (c .0), rows-right rs (c .1))
-
--- one computed test over the whole table
-pub cases : AllRight rows
-unfolding rows rowRow sameList tellsBy each lowerParents opening fresh blankBoard recordRule effect applied soundStep afterAll allAnswers
-cases = rows-right rows (each-claims (λ i row. rowRow row) rows refl)
-
--- ---- the bound attained
+-- ---- a test of an attained bound that computes, and what it shows
 abbrev zeroRow : ℕ → ℕ → List Fact
 zeroRow i k = equal k 0 ∷ []
 
@@ -128,27 +82,74 @@ quiet-of b u s = record {
       (λ l. ap (λ (y : Slot). isWork (y .kind)) (List·getD-eq-default (b .slots) blankSlot l));
 }
 
-abbrev attainedQuick : Board
-attainedQuick = quickAfter (opening 2 1 (0 ∷ []) .board) wholeToRest
+attainedRow : Board → List StepRecord → List Fact
+attainedRow b rs =
+    holds (each idleRow (b .units))
+    ∷ holds (each noWorkRow (b .slots))
+    ∷ holds (each zeroRow (quickAnswers b rs))
+    ∷ holds (each noStartRow rs)
+    ∷ equal (length rs) (drainBound b)
+    ∷ []
 
-opened-sound : Sound (opening 2 1 (0 ∷ []) .board)
-unfolding each lowerParents opening
-opened-sound = opening-sound 2 1 (0 ∷ []) refl .0
-
-attained-after : attainedFrom ≡ attainedQuick
-attained-after = quick-after (opening 2 1 (0 ∷ []) .board) wholeToRest opened-sound
-
-attained-sound : Sound attainedQuick
-attained-sound = subst Sound attained-after (list-keeps-sound (opening 2 1 (0 ∷ []) .board) wholeToRest opened-sound)
-
-pub bound-attained : BoundAttained
-unfolding each sumOf lowerParents opening fresh blankBoard recordRule effect applied soundStep afterAll allAnswers idleRow noWorkRow drainBound waitingUnits returnsUnderWay deepest depth depthWithin
-bound-attained = record {
-  quiet = subst Quiet (sym attained-after) (quiet-of attainedQuick refl refl);
-  drain = subst (λ (b : Board). Drain b attainedBy) (sym attained-after)
-      (drain-of attainedQuick attainedBy (subst (λ (ks : List ℕ). Each zeroRow ks) (sym (quick-answers attainedQuick attainedBy attained-sound)) (each-claims zeroRow _ refl)) (each-claims noStartRow attainedBy refl));
-  attained = sym (ap drainBound attained-after);
+attained-right : (b : Board) (rs : List StepRecord) → Sound b → Claims (attainedRow b rs) → Attained b rs
+unfolding attainedRow
+attained-right b rs h c = record {
+  quiet = quiet-of b (c .0) (c .1 .0);
+  drain = drain-of b rs (subst (λ (ks : List ℕ). Each zeroRow ks) (sym (quick-answers b rs h)) (each-claims zeroRow _ (c .1 .1 .0))) (each-claims noStartRow rs (c .1 .1 .1 .0));
+  attained = c .1 .1 .1 .1 .0;
 }
+
+-- ---- a test of a row that computes, and what it shows
+tellsBy : Bool → Verdict → Bool
+tellsBy t Working = not t
+tellsBy t Finished = t
+tellsBy t (Refused k) = false
+
+tells-by : (t : Bool) (v : Verdict) → tellsBy t v ≡ true → cond t Finished Working ≡ v
+unfolding tellsBy
+tells-by true Working e = absurd (true-not-false (sym e))
+tells-by true Finished e = refl
+tells-by true (Refused k) e = absurd (true-not-false (sym e))
+tells-by false Working e = refl
+tells-by false Finished e = absurd (true-not-false (sym e))
+tells-by false (Refused k) e = absurd (true-not-false (sym e))
+
+rowRow : Row → List Fact
+rowRow (shares w given) = equal (share w) given ∷ []
+rowRow (opens m d ps k) = equal (opening m d ps .answer) k ∷ []
+rowRow (runs m d ps rs ks v) =
+    equal (opening m d ps .answer) 0
+    ∷ holds (sameList (quickAnswers (opening m d ps .board) rs) ks)
+    ∷ holds (tellsBy (eqb (quickAfter (opening m d ps .board) rs .debt) 0) v)
+    ∷ []
+rowRow (attains m d ps rs ds) = equal (opening m d ps .answer) 0 ∷ attainedRow (quickAfter (opening m d ps .board) rs) ds
+
+row-right : (row : Row) → Claims (rowRow row) → Right row
+unfolding rowRow
+row-right (shares w given) c = c .0
+row-right (opens m d ps k) c = c .0
+row-right (runs m d ps rs ks v) c =
+    let f : Board = opening m d ps .board in
+    let h : Sound f = opening-sound m d ps (c .0) .0 in (
+      c .0,
+      quick-answers f rs h ∙ same-is _ ks (c .1 .0),
+      verdict-sound (after f rs) (list-keeps-sound f rs h) ∙ ap (λ (b : Board). toldFrom (b .debt)) (quick-after f rs h) ∙ tells-by _ v (c .1 .1 .0),
+    )
+row-right (attains m d ps rs ds) c =
+    let f : Board = opening m d ps .board in
+    let h : Sound f = opening-sound m d ps (c .0) .0 in
+    let quick = quick-after f rs h in
+    (c .0, subst (λ (b : Board). Attained b ds) (sym quick) (attained-right (quickAfter f rs) ds (subst Sound quick (list-keeps-sound f rs h)) (c .1)))
+
+rows-right : (rs : List Row) → Each (λ i row. rowRow row) rs → AllRight rs
+unfolding Each
+rows-right [] c = tt
+rows-right (row ∷ rs) c = (row-right row (c .0), rows-right rs (c .1))
+
+-- one computed test over the whole table
+pub cases : AllRight rows
+unfolding rows rowRow attainedRow idleRow noWorkRow sameList tellsBy each sumOf lowerParents opening fresh blankBoard recordRule effect applied soundStep afterAll allAnswers drainBound waitingUnits returnsUnderWay deepest depth depthWithin
+cases = rows-right rows (each-claims (λ i row. rowRow row) rows refl)
 
 -- ---- the stuck board
 -- the one number below 1

@@ -1,9 +1,10 @@
--- Drains from a quiet board: each has at most so many steps as the bound says, and until finished some step makes it one longer.
+-- Drains from a quiet board: each has at most so many steps as the bound says, fewer with returns under way, and until finished some
+-- step makes it one longer.
 use mathlib.Core.Path.{_≡_, refl, sym, ap, subst, _∙_}
 use mathlib.Core.Bool.{true}
 use mathlib.Core.List.{List, [], _∷_}
-use Prim.Native.Nat.{ℕ, zero, suc, _≤_, _<_}
-use native.Mathlib.Nat.{le-trans}
+use Prim.Native.Nat.{ℕ, zero, suc, _+_, _*_, _≤_, _<_}
+use native.Mathlib.Nat.{le-trans, mul-le-mul-left}
 use native.Mathlib.Omega.{arith}
 use lib.ListN.{length}
 use Rattle.rules.specs.Facts.{Claims, check, fails}
@@ -12,8 +13,8 @@ use Rattle.rules.specs.Sound.{unitsWeight, slotsWeight, Sound}
 use Rattle.rules.specs.Steps.{grantFits, returnEffect, deliverEffect, checksOn, applied, step}
 use Rattle.rules.specs.Events.{afterAll}
 use Rattle.rules.specs.Lists.{after}
-use Rattle.rules.specs.Drains.{Quiet, DrainStep, Drain, returns, waits, waitStep, wayStep}
-use Rattle.rules.specs.Guarantee.{Fits16, Longer, Drains}
+use Rattle.rules.specs.Drains.{Quiet, DrainStep, Drain, returns, waits, waitStep, wayStep, returnsUnderWay, drainBound}
+use Rattle.rules.specs.Guarantee.{Fits16, Longer, Drains, ReturnsCountLess}
 use Rattle.rules.proofs.FactLaws.{asked}
 use Rattle.rules.proofs.SumLaws.{PartAbove, sum-above}
 use Rattle.rules.proofs.SoundLaws.{below-or-not, root-or-other, unit-past-weight, slot-past-weight}
@@ -21,7 +22,7 @@ use Rattle.rules.proofs.Accepted.{step-does}
 use Rattle.rules.proofs.EntryLaws.{empty-is, unit-row-as, slot-row-as}
 use Rattle.rules.proofs.ListLaws.{step-keeps-sound, list-keeps-sound}
 use Rattle.rules.proofs.FinishedLaws.{debt-finished}
-use Rattle.rules.proofs.Potential.{potential, not-active, not-work, not-request, not-supply, drain-step-lowers, potential-bound}
+use Rattle.rules.proofs.Potential.{potential, not-active, not-work, not-request, not-supply, drain-step-lowers, potential-less, potential-bound}
 use Rattle.rules.specs.declared.State.{State}
 use Rattle.rules.specs.declared.State.the-variants.{Idle, Active, Waiting}
 use Rattle.rules.specs.declared.Kind.{Kind}
@@ -122,3 +123,13 @@ quiet-drains b h q = record {
   where
     above-zero : (k : ℕ) → (k ≡ 0 → ⊥) → 1 ≤ k
     above-zero k n = omega (arith, n)
+
+pub returns-count-less : ReturnsCountLess
+unfolding ReturnsCountLess
+returns-count-less b h q rs z = (less, λ k. omega (arith, less, mul-le-mul-left (returnsUnderWay b) one, k))
+  where
+    less : length rs + returnsUnderWay b * (b .delay + 1) ≤ drainBound b
+    less = omega (arith, drain-length b rs h q z, potential-less b h)
+
+    one : 1 ≤ b .delay + 1
+    one = omega arith

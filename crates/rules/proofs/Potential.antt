@@ -18,7 +18,7 @@ use Rattle.rules.specs.Steps.{message, waitingWith, returned, unitOf, re
 use Rattle.rules.specs.Lists.{startBy}
 use Rattle.rules.specs.Drains.{Quiet, DrainStep, waitingUnits, returnsUnderWay, drainBound}
 use Rattle.rules.proofs.FactLaws.{true-not-false}
-use Rattle.rules.proofs.SumLaws.{sum-set, sum-bound}
+use Rattle.rules.proofs.SumLaws.{sum-set, sum-bound, sum-plus}
 use Rattle.rules.proofs.SoundLaws.{below-or-not, root-or-other, parent-below, unit-past, slot-past}
 use Rattle.rules.proofs.Accepted.{AcceptedAs, shown, accepted-as}
 use Rattle.rules.proofs.EntryLaws.{waiting-is, unit-row-as, slot-row-as, pending-as, suspended-active, pending-suspended}
@@ -169,9 +169,9 @@ module _ (b : Board) (h : Sound b) (q : Quiet b) where
           lower-both v (r .slot) (waitingWith (x .weight + y .weight) k) blankSlot (b .debt) receiver-used (shown 14 c) refl refl (omega (arith, one-deeper l, slot-worth-as (r .slot) Return e))
 
       returned-lower : 1 ≤ v → (k : State) → x .state ≡ k → Lower b (changed b (set (b .units) v (returned (b .delay) x (y .weight) k)) (set (b .slots) (r .slot) blankSlot) (b .debt))
-      returned-lower l Idle z = waits-lower (b .delay) (omega arith) l
+      returned-lower l Idle z = waits-lower _ (omega (arith, unit-row-as b h v Idle receiver-used z)) l
       returned-lower l Active z = absurd (not-active v z)
-      returned-lower l Waiting z = waits-lower (b .delay) (omega arith) l
+      returned-lower l Waiting z = waits-lower _ (omega (arith, unit-row-as b h v Waiting receiver-used z)) l
 
       return-lower : LowerBy v (r .slot) (returnEffect (b .debt) (b .delay) x y)
       unfolding applied
@@ -233,10 +233,14 @@ module _ (b : Board) (h : Sound b) where
       by-state Active e = omega arith
       by-state Waiting e = waiting-most e
 
-  slot-most : (j : ℕ) → j < 256 → slotWorth (b .delay) (b .parents) (slotAt b j) (slotAt b j .kind) ≤ oneIf (isReturn (slotAt b j .kind)) * most
+  abbrev returnAt : Slot → ℕ
+  returnAt y = oneIf (isReturn (y .kind))
+
+  -- a return is worth at least d + 1 less: the ticks of its sender and the release are behind it
+  slot-most : (j : ℕ) → j < 256 → slotWorth (b .delay) (b .parents) (slotAt b j) (slotAt b j .kind) + returnAt (slotAt b j) * (b .delay + 1) ≤ returnAt (slotAt b j) * most
   slot-most j l = by-kind (slotAt b j .kind) refl
     where
-      return-most : slotAt b j .kind ≡ Return → slotWorth (b .delay) (b .parents) (slotAt b j) Return ≤ 1 * most
+      return-most : slotAt b j .kind ≡ Return → slotWorth (b .delay) (b .parents) (slotAt b j) Return + 1 * (b .delay + 1) ≤ 1 * most
       return-most e =
           below-or-not j (b .m)
           (λ p.
@@ -244,18 +248,22 @@ module _ (b : Board) (h : Sound b) where
           omega (arith, deep-most (slotAt b j .from) (row .0) (row .1 .0), ap (λ (k : ℕ). (b .delay + 2) * depth (b .parents) k) (row .1 .1 .0)))
           (λ p. absurd (true-not-false (sym (slot-past b h j p) ∙ ap isEmpty e)))
 
-      by-kind : (k : Kind) → slotAt b j .kind ≡ k → slotWorth (b .delay) (b .parents) (slotAt b j) k ≤ oneIf (isReturn k) * most
+      by-kind : (k : Kind) → slotAt b j .kind ≡ k → slotWorth (b .delay) (b .parents) (slotAt b j) k + oneIf (isReturn k) * (b .delay + 1) ≤ oneIf (isReturn k) * most
       by-kind Empty e = omega arith
       by-kind Work e = omega arith
       by-kind Return e = return-most e
       by-kind Request e = omega arith
       by-kind Supply e = omega arith
 
-  pub potential-bound : potential b ≤ drainBound b
+  pub potential-less : potential b + returnsUnderWay b * (b .delay + 1) ≤ drainBound b
   unfolding drainBound waitingUnits returnsUnderWay unitsWorth slotsWorth
-  potential-bound = omega (
+  potential-less = omega (
     arith,
     sum-bound (λ i u. unitWorth (b .delay) (b .parents) i u (u .state)) (λ i u. oneIf (isWaiting (u .state))) most (b .units) blankUnit (λ i l. unit-most i (omega (arith, l, h .s1-sizes))),
-    sum-bound (λ j y. slotWorth (b .delay) (b .parents) y (y .kind)) (λ j y. oneIf (isReturn (y .kind))) most (b .slots) blankSlot (λ j l. slot-most j (omega (arith, l, h .s1-sizes))),
-    add-mul (sumOf (λ i u. oneIf (isWaiting (u .state))) (b .units)) (sumOf (λ j y. oneIf (isReturn (y .kind))) (b .slots)) most,
+    sum-plus (λ j y. slotWorth (b .delay) (b .parents) y (y .kind)) (λ j y. returnAt y) (b .delay + 1) (b .slots),
+    sum-bound (λ j y. slotWorth (b .delay) (b .parents) y (y .kind) + returnAt y * (b .delay + 1)) (λ j y. returnAt y) most (b .slots) blankSlot (λ j l. slot-most j (omega (arith, l, h .s1-sizes))),
+    add-mul (sumOf (λ i u. oneIf (isWaiting (u .state))) (b .units)) (sumOf (λ j y. returnAt y) (b .slots)) most,
   )
+
+  pub potential-bound : potential b ≤ drainBound b
+  potential-bound = omega (arith, potential-less)

@@ -181,11 +181,15 @@ module _ (b : Board) (r : StepRecord) (h : Sound b) where
           emptied _ receiver (waiting-row (b .delay) (y .to) (x .weight + y .weight) k (omega (arith, return-row)) l p false refl) (omega (arith, ap oneIf free, kept (y .to))) (λ i n. kept i) refl
 
       returned-fits : 1 ≤ y .to → (k : State) → x .state ≡ k → Fits b (y .to) (r .slot) (returned (b .delay) x (y .weight) k) blankSlot (b .debt)
-      returned-fits l Idle q = waits-fits (b .delay) (omega arith) l (unit-row-as b h (y .to) Idle receiver q .1 .1 .0)
+      returned-fits l Idle q =
+          let idle = unit-row-as b h (y .to) Idle receiver q in
+          waits-fits _ (omega (arith, idle)) l (idle .1 .1 .0)
       returned-fits l Active q =
           emptied _ receiver (state-row (b .delay) (y .to) (withWeight x (x .weight + y .weight)) Active q (omega (arith, return-row, unit-row-as b h (y .to) Active receiver q)))
           (omega (arith, kept (y .to))) (λ i n. kept i) refl
-      returned-fits l Waiting q = waits-fits (b .delay) (omega arith) l (unit-row-as b h (y .to) Waiting receiver q .1 .1 .0)
+      returned-fits l Waiting q =
+          let waiting = unit-row-as b h (y .to) Waiting receiver q in
+          waits-fits _ (omega (arith, waiting)) l (waiting .1 .1 .0)
 
       return-fits : FitsEffect b (y .to) (r .slot) (returnEffect (b .debt) (b .delay) x y)
       return-fits =

@@ -1,4 +1,4 @@
--- Sums over lists: after a store, against a part, a part above 0, two sums compared part by part.
+-- Sums over lists: after a store, against a part, a part above 0, two sums compared part by part, a sum of sums.
 use mathlib.Core.Path.{_≡_, refl}
 use mathlib.Core.List.{List, [], _∷_}
 use Prim.Native.Nat.{ℕ, zero, suc, _+_, _*_, _≤_, _<_, suc-le-suc, zero-le}
@@ -43,6 +43,12 @@ unfolding sumOf
 sum-bound f g k [] d h = zero-le
 sum-bound f g k (x ∷ xs) d h =
     omega (arith, add-mul (g 0 x) (sumOf (λ i. g (suc i)) xs) k, h 0 (suc-le-suc zero-le), sum-bound (λ i. f (suc i)) (λ i. g (suc i)) k xs d (λ i l. h (suc i) (suc-le-suc l)))
+
+-- the sum of sums, the second so many times
+pub sum-plus : {A : Type 0} (f g : ℕ → A → ℕ) (k : ℕ) (xs : List A) → sumOf (λ i x. f i x + g i x * k) xs ≡ sumOf f xs + sumOf g xs * k
+unfolding sumOf
+sum-plus f g k [] = omega arith
+sum-plus f g k (x ∷ xs) = omega (arith, add-mul (g 0 x) (sumOf (λ i. g (suc i)) xs) k, sum-plus (λ i. f (suc i)) (λ i. g (suc i)) k xs)
 
 -- parts of 0, a sum of 0
 pub sum-none : {A : Type 0} (f : ℕ → A → ℕ) (xs : List A) (d : A) → ((i : ℕ) → i < length xs → f i (getD xs i d) ≡ 0) → sumOf f xs ≡ 0

@@ -1,4 +1,4 @@
--- Worked cases of the definitions: rows of one table, a board that is stuck, and the bound on drains attained.
+-- Worked cases of the definitions: rows of one table, and a board that is stuck.
 use mathlib.Core.Path.{_≡_}
 use mathlib.Core.Bool.{true}
 use mathlib.Core.List.{List, [], _∷_}
@@ -43,16 +43,25 @@ tick u = asks 6 u 0 0
 abbrev pub release : ℕ → ℕ → StepRecord
 release u s = asks 7 u 0 s
 
--- ---- a row: a share, an opening's answer, or an accepted opening and a list of steps with their answers and the verdict after them
+-- ---- a row: a share, an opening's answer, or an accepted opening and a list of steps with their answers and the verdict after
+-- them, or with a drain after them that attains its bound
 pub data Row : Type 0 where
   shares : ℕ → ℕ → Row
   opens : ℕ → ℕ → List ℕ → ℕ → Row
   runs : ℕ → ℕ → List ℕ → List StepRecord → List ℕ → Verdict → Row
+  attains : ℕ → ℕ → List ℕ → List StepRecord → List StepRecord → Row
+
+-- a drain from b that has as many steps as the bound
+pub record Attained (b : Board) (rs : List StepRecord) : Type 0 where
+  pub quiet : Quiet b
+  pub drain : Drain b rs
+  pub attained : length rs ≡ drainBound b
 
 abbrev pub Right : Row → Type 0
 Right (shares w given) = share w ≡ given
 Right (opens m d ps k) = opening m d ps .answer ≡ k
 Right (runs m d ps rs ks v) = (opening m d ps .answer ≡ 0) × (answers (opening m d ps .board) rs ≡ ks) × (verdict (after (opening m d ps .board) rs) ≡ v)
+Right (attains m d ps rs ds) = (opening m d ps .answer ≡ 0) × (Attained (after (opening m d ps .board) rs) ds)
 
 abbrev pub AllRight : List Row → Type 0
 AllRight [] = Unit {0}
@@ -88,6 +97,14 @@ wholeToRest = start 0 ∷ send 0 1 0 ∷ rest 0 ∷ deliver 0 ∷ rest 1 ∷ []
 abbrev pub wholeCase : List StepRecord
 wholeCase = start 0 ∷ send 0 1 0 ∷ rest 0 ∷ deliver 0 ∷ rest 1 ∷ release 1 1 ∷ tick 1 ∷ release 1 1 ∷ deliver 1 ∷ []
 
+-- a chain of three, d = 2: units 1 and 2 rest, and the return of unit 2 reaches unit 1 when that has ticked so often
+abbrev pub toReturn : ℕ → List StepRecord → List StepRecord
+toReturn ticks more = start 2 ∷ send 2 1 0 ∷ deliver 0 ∷ rest 1 ∷ rest 2 ∷ tick 2 ∷ tick 2 ∷ release 2 0 ∷ mathlib.Core.List._++_ (replicate ticks (tick 1)) (deliver 0 ∷ more)
+
+-- with countdown 2 unit 1 is released after two ticks and not before
+abbrev pub fromTwo : List StepRecord
+fromTwo = release 1 0 ∷ tick 1 ∷ release 1 0 ∷ tick 1 ∷ tick 1 ∷ release 1 0 ∷ deliver 0 ∷ []
+
 unfoldable pub rows : List Row
 rows =
     shares 2 1
@@ -108,19 +125,13 @@ rows =
     ∷ runs 11 0 (0 ∷ 1 ∷ []) (toWeightOne (request 2 10 ∷ rest 2 ∷ [])) (allAccepted 16 (32 ∷ [])) Working
     ∷ opens 1 0 (1 ∷ []) 12
     ∷ runs 2 1 (0 ∷ []) wholeCase (0 ∷ 0 ∷ 0 ∷ 0 ∷ 0 ∷ 40 ∷ 0 ∷ 0 ∷ 0 ∷ []) Finished
+    ∷ runs 1 2 (0 ∷ 1 ∷ []) (start 2 ∷ rest 2 ∷ tick 2 ∷ tick 2 ∷ release 2 0 ∷ deliver 0 ∷ fromTwo) (allAccepted 6 (40 ∷ 0 ∷ 40 ∷ 0 ∷ 39 ∷ 0 ∷ 0 ∷ [])) Finished
+    ∷ runs 1 2 (0 ∷ 1 ∷ []) (toReturn 0 fromTwo) (allAccepted 9 (40 ∷ 0 ∷ 40 ∷ 0 ∷ 39 ∷ 0 ∷ 0 ∷ [])) Finished
+    ∷ runs 1 2 (0 ∷ 1 ∷ []) (toReturn 1 (release 1 0 ∷ tick 1 ∷ tick 1 ∷ release 1 0 ∷ deliver 0 ∷ [])) (allAccepted 10 (40 ∷ 0 ∷ 39 ∷ 0 ∷ 0 ∷ [])) Finished
+    ∷ runs 1 2 (0 ∷ 1 ∷ []) (toReturn 2 (release 1 0 ∷ deliver 0 ∷ [])) (allAccepted 13 []) Finished
+    ∷ attains 2 1 (0 ∷ []) wholeToRest (tick 1 ∷ release 1 1 ∷ deliver 1 ∷ [])
+    ∷ attains 1 1 (0 ∷ 0 ∷ []) (start 1 ∷ send 1 2 0 ∷ deliver 0 ∷ rest 1 ∷ rest 2 ∷ []) (tick 1 ∷ release 1 0 ∷ deliver 0 ∷ tick 2 ∷ release 2 0 ∷ deliver 0 ∷ [])
     ∷ []
-
--- ---- the bound on drains is attained: after the rest of unit 1 in the whole case, by tick, release, deliver
-abbrev pub attainedFrom : Board
-attainedFrom = after (opening 2 1 (0 ∷ []) .board) wholeToRest
-
-abbrev pub attainedBy : List StepRecord
-attainedBy = tick 1 ∷ release 1 1 ∷ deliver 1 ∷ []
-
-pub record BoundAttained : Type 0 where
-  pub quiet : Quiet attainedFrom
-  pub drain : Drain attainedFrom attainedBy
-  pub attained : length attainedBy ≡ drainBound attainedFrom
 
 -- ---- a sound board on which every step is refused: its one unit is suspended, and its request would pass 2^40. It is active, so no drain begins here
 unfoldable pub stuckBoard : Board

@@ -11,7 +11,7 @@ use Rattle.rules.specs.Steps.{step}
 use Rattle.rules.specs.Events.{Events, afterAll, tallyAll}
 use Rattle.rules.specs.Lists.{steps, after, tally, startCount, grantCount, takenCount}
 use Rattle.rules.specs.Finished.{verdict, Complete}
-use Rattle.rules.specs.Drains.{Quiet, Drain, DrainStep, Way, There, wayStep, drainBound}
+use Rattle.rules.specs.Drains.{Quiet, Drain, DrainStep, Way, There, wayStep, returnsUnderWay, drainBound}
 use Rattle.rules.specs.declared.Board.{Board}
 use Rattle.rules.specs.declared.StepRecord.{StepRecord}
 use Rattle.rules.specs.declared.Verdict.the-variants.{Finished}
@@ -93,3 +93,10 @@ FinishedAllBack =
 -- an accepted step never leaves the board as it was
 unfoldable pub AcceptedChanges : Type 0
 AcceptedChanges = (b : Board) (r : StepRecord) → step b r .answer ≡ 0 → step b r .board ≡ b → ⊥
+
+-- a return under way counts at least d + 1 less than the bound has for it: so many steps fewer has each drain, and with a return
+-- under way none attains the bound
+unfoldable pub ReturnsCountLess : Type 0
+ReturnsCountLess =
+    (b : Board) → Sound b → Quiet b → (rs : List StepRecord) → Drain b rs
+    → (length rs + returnsUnderWay b * (b .delay + 1) ≤ drainBound b) × (1 ≤ returnsUnderWay b → length rs < drainBound b)

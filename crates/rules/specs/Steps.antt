@@ -90,11 +90,12 @@ deliverChecks debt y = check (fails (isEmpty (y .kind))) 35 ∷ grantFits debt (
 abbrev pub worked : UnitRecord → ℕ → UnitRecord
 worked x w = record { weight = x .weight + w; countdown = 0; state = Active; suspended = x .suspended }
 
--- a return to another unit than 0: weight added; an active one stays active, an idle or waiting one is waiting with countdown d
+-- a return to another unit than 0: weight added; an active one stays active, an idle one is waiting with countdown d, a waiting one
+-- lets its countdown stand (M-104)
 abbrev pub returned : ℕ → UnitRecord → ℕ → State → UnitRecord
 returned d x w Idle = waitingWith (x .weight + w) d
 returned d x w Active = withWeight x (x .weight + w)
-returned d x w Waiting = waitingWith (x .weight + w) d
+returned d x w Waiting = waitingWith (x .weight + w) (x .countdown)
 
 -- a supply: weight added, suspension ends
 abbrev pub supplied : UnitRecord → ℕ → UnitRecord

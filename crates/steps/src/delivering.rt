@@ -28,7 +28,7 @@ fn worked(x: UnitRecord, w: u64) -> UnitRecord
     }
 }
 
-// The receiver of a return, another unit than 0: active it stays active, idle or waiting it waits anew.
+// The receiver of a return, another unit than 0: active it stays active, idle it begins to wait, waiting its countdown goes on.
 fn returned(delay: u16, x: UnitRecord, w: u64) -> UnitRecord
     requires { ⌜ x .weight + w < 2 ^ 64 ⌝ }
     ensures { λ z. ⌜ z ≡ returned delay x w (x .state) ⌝ }
@@ -42,7 +42,7 @@ fn returned(delay: u16, x: UnitRecord, w: u64) -> UnitRecord
             z.weight = sum;
             z
         }
-        State::Waiting => waiting_with(sum, delay),
+        State::Waiting => waiting_with(sum, x.countdown),
     }
 }
 

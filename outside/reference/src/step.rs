@@ -188,7 +188,10 @@ impl Board {
             Kind::Return if message.to == 0 => self.debt -= message.weight,
             Kind::Return => {
                 receiver.weight += message.weight;
-                if receiver.state != State::Active {
+                // Only an idle unit begins a wait; the countdown of a waiting
+                // one stands (M-104). For returns this is what is compared, and
+                // no longer the source of the scheme.
+                if receiver.state == State::Idle {
                     receiver.state = State::Waiting;
                     receiver.countdown = self.d;
                 }

@@ -51,6 +51,87 @@ fn whole_case() {
     .unwrap();
 }
 
+/// The units 2 and 3 under 1, with d = 2. Returns find unit 1 waiting with
+/// countdown 1 in line 15 and with 0 in line 22, and let both stand (M-104).
+/// With restarts the board would be working until the last line.
+#[test]
+fn returns_to_a_waiting_unit() {
+    let script = "board|2|2|0|1|1\nstart|0\nsend|0|1|0\nrest|0\ndeliver|0\n\
+        send|1|2|0\nsend|1|3|1\nrest|1\ndeliver|0\ndeliver|1\n\
+        rest|2\ntick|2\ntick|2\ntick|1\nrelease|2|0\ndeliver|0\n\
+        release|1|0\ntick|1\nrest|3\ntick|3\ntick|3\nrelease|3|1\ndeliver|1\n\
+        tick|1\nrelease|1|0\ndeliver|0\ntick|1\nrelease|1|0\ndeliver|0\n";
+    let expected = "step|answer|debt|state\n\
+        0|0|0|finished\n\
+        1|0|16777216|working\n\
+        2|0|16777216|working\n\
+        3|0|16384|working\n\
+        4|0|16384|working\n\
+        5|0|16384|working\n\
+        6|0|16384|working\n\
+        7|0|16384|working\n\
+        8|0|16384|working\n\
+        9|0|16384|working\n\
+        10|0|16384|working\n\
+        11|0|16384|working\n\
+        12|0|16384|working\n\
+        13|0|16384|working\n\
+        14|0|16384|working\n\
+        15|0|16384|working\n\
+        16|40|16384|working\n\
+        17|0|16384|working\n\
+        18|0|16384|working\n\
+        19|0|16384|working\n\
+        20|0|16384|working\n\
+        21|0|16384|working\n\
+        22|0|16384|working\n\
+        23|39|16384|working\n\
+        24|0|16384|working\n\
+        25|0|0|finished\n\
+        26|38|0|finished\n\
+        27|38|0|finished\n\
+        28|35|0|finished\n";
+    let listing = listing(script.replace('|', "\t").as_bytes());
+    assert_eq!(listing, expected.replace('|', "\t"));
+}
+
+/// The chain 0, 1, 2 with d = 1. Unit 1 is released at once after the return
+/// in line 10 (M-104); the one in line 18 finds it idle, and it waits again.
+#[test]
+fn return_after_a_release() {
+    let script = "board|2|1|0|1\nstart|2\nsend|2|1|0\ndeliver|0\nrest|1\ntick|1\n\
+        send|2|2|1\nrest|2\ntick|2\nrelease|2|0\ndeliver|0\n\
+        tick|1\nrelease|1|0\ndeliver|0\n\
+        deliver|1\nrest|2\ntick|2\nrelease|2|1\ndeliver|1\n\
+        release|1|0\ntick|1\nrelease|1|0\ndeliver|0\n";
+    let expected = "step|answer|debt|state\n\
+        0|0|0|finished\n\
+        1|0|16777216|working\n\
+        2|0|16777216|working\n\
+        3|0|16777216|working\n\
+        4|0|16777216|working\n\
+        5|0|16777216|working\n\
+        6|0|16777216|working\n\
+        7|0|16777216|working\n\
+        8|0|16777216|working\n\
+        9|0|16777216|working\n\
+        10|0|16777216|working\n\
+        11|39|16777216|working\n\
+        12|0|16777216|working\n\
+        13|0|16384|working\n\
+        14|0|16384|working\n\
+        15|0|16384|working\n\
+        16|0|16384|working\n\
+        17|0|16384|working\n\
+        18|0|16384|working\n\
+        19|40|16384|working\n\
+        20|0|16384|working\n\
+        21|0|16384|working\n\
+        22|0|0|finished\n";
+    let listing = listing(script.replace('|', "\t").as_bytes());
+    assert_eq!(listing, expected.replace('|', "\t"));
+}
+
 #[test]
 fn first_line() {
     refused(b"", BOARD_MISPLACED);

@@ -500,6 +500,31 @@ fn work_wakes_a_waiting_unit_with_its_weight() {
     assert_eq!(board.units[4], unit);
 }
 
+fn waiting(weight: u64, countdown: u16) -> Unit {
+    Unit {
+        state: State::Waiting,
+        weight,
+        countdown,
+        suspended: false,
+    }
+}
+
+fn returned(from: u16, to: u16, weight: u64) -> Slot {
+    Slot {
+        kind: Kind::Return,
+        from,
+        to,
+        weight,
+    }
+}
+
+/// So many ticks of a unit.
+fn ticks(board: &mut Board, unit: u16, count: u16) {
+    for _ in 0..count {
+        take(board, &[Step::tick(unit)]);
+    }
+}
+
 #[test]
 fn returns() {
     // The chain 0, 1, 2, 3 with d = 2.
@@ -519,30 +544,15 @@ fn returns() {
         ],
     );
     assert_eq!(board.units[3], Unit::BLANK);
-    let back = Slot {
-        kind: Kind::Return,
-        from: 3,
-        to: 2,
-        weight: (1 << 24) - 16_384,
-    };
-    assert_eq!(board.slots[0], back);
-    // Into a waiting unit: the countdown begins anew, the debt stays.
+    assert_eq!(board.slots[0], returned(3, 2, (1 << 24) - 16_384));
+    // Into a waiting unit: the countdown stands (M-104), and so does the debt.
     take(&mut board, &[Step::deliver(0)]);
-    let waiting = Unit {
-        state: State::Waiting,
-        weight: 1 << 24,
-        countdown: 2,
-        suspended: false,
-    };
-    assert_eq!(board.units[2], waiting);
+    assert_eq!(board.units[2], waiting(1 << 24, 1));
     assert_eq!(board.debt, 1 << 24);
     // Into an idle unit.
-    take(
-        &mut board,
-        &[Step::tick(2), Step::tick(2), Step::release(2, 1)],
-    );
+    take(&mut board, &[Step::tick(2), Step::release(2, 1)]);
     take(&mut board, &[Step::deliver(1)]);
-    assert_eq!(board.units[1], waiting);
+    assert_eq!(board.units[1], waiting(1 << 24, 2));
     // Into unit 0.
     take(
         &mut board,
@@ -554,22 +564,275 @@ fn returns() {
     assert_eq!(board, open(2, 2, &[0, 1, 2]));
 }
 
-#[test]
-fn return_into_an_active_unit() {
-    let mut board = open(2, 0, &[0, 1]);
+/// The chain 0, 1, 2 with M = 2. Unit 1 waits with 16,384 and the countdown,
+/// slot 0 is the return to it with the rest of 2^24, all else is blank.
+fn return_to_a_waiting_unit(d: u16, countdown: u16) -> Board {
+    let mut board = open(2, d, &[0, 1]);
     take(
         &mut board,
         &[
-            Step::start(1),
-            Step::send(1, 2, 0),
+            Step::start(2),
+            Step::send(2, 1, 0),
             Step::deliver(0),
+            Step::rest(1),
             Step::rest(2),
-            Step::release(2, 0),
+        ],
+    );
+    ticks(&mut board, 2, d);
+    ticks(&mut board, 1, d - countdown);
+    take(&mut board, &[Step::release(2, 0)]);
+    assert_eq!(board.units[1], waiting(16_384, countdown));
+    assert_eq!(board.slots[0], returned(2, 1, 16_760_832));
+    board
+}
+
+/// A delay and a countdown of it.
+const COUNTDOWNS: [(u16, u16); 13] = [
+    (0, 0),
+    (1, 0),
+    (1, 1),
+    (2, 0),
+    (2, 1),
+    (2, 2),
+    (5, 0),
+    (5, 1),
+    (5, 4),
+    (5, 5),
+    (255, 0),
+    (255, 1),
+    (255, 255),
+];
+
+#[test]
+fn return_into_a_waiting_unit() {
+    for (d, countdown) in COUNTDOWNS {
+        let mut board = return_to_a_waiting_unit(d, countdown);
+        take(&mut board, &[Step::deliver(0)]);
+        // The countdown stands (M-104).
+        let mut expected = open(2, d, &[0, 1]);
+        expected.units[1] = waiting(16_777_216, countdown);
+        expected.debt = 16_777_216;
+        assert_eq!(board, expected, "d = {d}, countdown {countdown}");
+    }
+}
+
+/// As many ticks as the countdown had left, no more and no fewer, and then a
+/// return with both weights.
+#[test]
+fn release_after_a_return() {
+    for (d, countdown) in COUNTDOWNS {
+        let mut board = return_to_a_waiting_unit(d, countdown);
+        take(&mut board, &[Step::deliver(0)]);
+        for left in (1..=countdown).rev() {
+            assert_eq!(board.units[1].countdown, left);
+            refuse(&board, Step::release(1, 1), COUNTDOWN_ABOVE_ZERO);
+            take(&mut board, &[Step::tick(1)]);
+        }
+        refuse(&board, Step::tick(1), COUNTDOWN_ZERO);
+        take(&mut board, &[Step::release(1, 1)]);
+        let mut expected = open(2, d, &[0, 1]);
+        expected.slots[1] = returned(1, 0, 16_777_216);
+        expected.debt = 16_777_216;
+        assert_eq!(board, expected, "d = {d}, countdown {countdown}");
+        take(&mut board, &[Step::deliver(1)]);
+        assert_eq!(board, open(2, d, &[0, 1]));
+    }
+}
+
+#[test]
+fn released_at_once_after_a_return() {
+    let mut board = return_to_a_waiting_unit(3, 0);
+    refuse(&board, Step::tick(1), COUNTDOWN_ZERO);
+    take(&mut board, &[Step::deliver(0)]);
+    refuse(&board, Step::tick(1), COUNTDOWN_ZERO);
+    take(&mut board, &[Step::release(1, 0)]);
+    assert_eq!(board.slots[0], returned(1, 0, 16_777_216));
+    assert_eq!(board.units[1], Unit::BLANK);
+    take(&mut board, &[Step::deliver(0)]);
+    assert_eq!(board.finished(), Ok(true));
+}
+
+#[test]
+fn return_into_an_idle_unit() {
+    for d in [0, 1, 2, 255] {
+        let mut board = open(1, d, &[0, 1]);
+        take(&mut board, &[Step::start(2), Step::rest(2)]);
+        ticks(&mut board, 2, d);
+        take(&mut board, &[Step::release(2, 0), Step::deliver(0)]);
+        let mut expected = open(1, d, &[0, 1]);
+        expected.units[1] = waiting(16_777_216, d);
+        expected.debt = 16_777_216;
+        assert_eq!(board, expected, "d = {d}");
+    }
+}
+
+#[test]
+fn return_into_an_active_unit() {
+    for d in [0, 2] {
+        let mut board = open(2, d, &[0, 1]);
+        take(
+            &mut board,
+            &[
+                Step::start(1),
+                Step::send(1, 2, 0),
+                Step::deliver(0),
+                Step::rest(2),
+            ],
+        );
+        ticks(&mut board, 2, d);
+        take(&mut board, &[Step::release(2, 0), Step::deliver(0)]);
+        let mut expected = open(2, d, &[0, 1]);
+        take(&mut expected, &[Step::start(1)]);
+        assert_eq!(board, expected);
+        let active = Unit {
+            state: State::Active,
+            weight: 16_777_216,
+            countdown: 0,
+            suspended: false,
+        };
+        assert_eq!(board.units[1], active);
+        // Its own wait begins with its rest.
+        take(&mut board, &[Step::rest(1)]);
+        assert_eq!(board.units[1], waiting(16_777_216, d));
+    }
+}
+
+/// The return comes before the grant, and between the grant and the supply.
+#[test]
+fn return_into_a_suspended_unit() {
+    for granted in [false, true] {
+        let mut board = open(2, 2, &[0, 1]);
+        take(
+            &mut board,
+            &[Step::start(2), Step::send(2, 1, 0), Step::deliver(0)],
+        );
+        // From 16,384 on: 15 shares of 1,024, then ten halves.
+        for _ in 0..25 {
+            take(&mut board, &[Step::send(1, 2, 0), Step::deliver(0)]);
+        }
+        take(&mut board, &[Step::request(1, 0), Step::rest(2)]);
+        ticks(&mut board, 2, 2);
+        take(&mut board, &[Step::release(2, 1)]);
+        if granted {
+            take(&mut board, &[Step::deliver(0)]);
+        }
+        let before = board.clone();
+        take(&mut board, &[Step::deliver(1)]);
+        let mut expected = before;
+        expected.units[1] = Unit {
+            state: State::Active,
+            weight: 16_777_216,
+            countdown: 0,
+            suspended: true,
+        };
+        expected.slots[1] = Slot::BLANK;
+        assert_eq!(board, expected);
+        refuse(&board, Step::rest(1), SUSPENDED);
+        refuse(&board, Step::tick(1), NOT_WAITING);
+        refuse(&board, Step::release(1, 1), NOT_WAITING);
+    }
+}
+
+#[test]
+fn return_into_unit_0() {
+    for rested in [false, true] {
+        let mut board = open(1, 1, &[0]);
+        take(
+            &mut board,
+            &[Step::start(0), Step::send(0, 1, 0), Step::deliver(0)],
+        );
+        if rested {
+            take(&mut board, &[Step::rest(0)]);
+        }
+        let root = board.units[0];
+        let kept = if rested { 0 } else { 16_760_832 };
+        take(
+            &mut board,
+            &[Step::rest(1), Step::tick(1), Step::release(1, 0)],
+        );
+        assert_eq!(board.debt, kept + 16_384);
+        take(&mut board, &[Step::deliver(0)]);
+        assert_eq!((board.debt, board.units[0]), (kept, root));
+        assert_eq!(board.units[1], Unit::BLANK);
+        assert_eq!(board.slots[0], Slot::BLANK);
+    }
+}
+
+/// The units 2, 3 and 4 under 1, with d = 3: the first return begins unit 1's
+/// wait, those after it join in.
+#[test]
+fn returns_one_after_another() {
+    let mut board = open(3, 3, &[0, 1, 1, 1]);
+    take(
+        &mut board,
+        &[
+            Step::start(2),
+            Step::send(2, 3, 0),
+            Step::deliver(0),
+            Step::send(2, 4, 0),
             Step::deliver(0),
         ],
     );
-    assert_eq!(board.units[1].state, State::Active);
-    assert_eq!(board.units[1].weight, 1 << 24);
+    for (unit, slot) in [(2, 0), (3, 1), (4, 2)] {
+        take(&mut board, &[Step::rest(unit)]);
+        ticks(&mut board, unit, 3);
+        take(&mut board, &[Step::release(unit, slot)]);
+    }
+    take(&mut board, &[Step::deliver(1)]);
+    assert_eq!(board.units[1], waiting(16_384, 3));
+    ticks(&mut board, 1, 2);
+    assert_eq!(board.units[1], waiting(16_384, 1));
+    take(&mut board, &[Step::deliver(0)]);
+    assert_eq!(board.units[1], waiting(16_760_832, 1));
+    refuse(&board, Step::release(1, 0), COUNTDOWN_ABOVE_ZERO);
+    let mut early = board.clone();
+    // Three returns in one wait.
+    take(&mut board, &[Step::deliver(2)]);
+    assert_eq!(board.units[1], waiting(16_777_216, 1));
+    take(&mut board, &[Step::tick(1)]);
+    refuse(&board, Step::tick(1), COUNTDOWN_ZERO);
+    take(&mut board, &[Step::release(1, 0)]);
+    assert_eq!(board.slots[0], returned(1, 0, 16_777_216));
+    // The last comes when the unit is idle again: it waits anew.
+    take(&mut early, &[Step::tick(1), Step::release(1, 0)]);
+    assert_eq!(early.slots[0], returned(1, 0, 16_760_832));
+    take(&mut early, &[Step::deliver(2)]);
+    assert_eq!(early.units[1], waiting(16_384, 3));
+}
+
+/// Only returns leave the countdown: work ends the wait, and the rest after it
+/// begins another.
+#[test]
+fn work_between_returns() {
+    let mut board = open(2, 2, &[0, 1]);
+    take(
+        &mut board,
+        &[
+            Step::start(2),
+            Step::send(2, 1, 0),
+            Step::deliver(0),
+            Step::rest(1),
+            Step::tick(1),
+            Step::send(2, 1, 1),
+            Step::rest(2),
+        ],
+    );
+    ticks(&mut board, 2, 2);
+    take(&mut board, &[Step::release(2, 0)]);
+    // The return first.
+    let mut after = board.clone();
+    take(&mut after, &[Step::deliver(0)]);
+    assert_eq!(after.units[1], waiting(16_760_832, 1));
+    take(&mut after, &[Step::deliver(1)]);
+    assert_eq!(after.units[1].state, State::Active);
+    assert_eq!(after.units[1].countdown, 0);
+    take(&mut after, &[Step::rest(1)]);
+    assert_eq!(after.units[1], waiting(16_777_216, 2));
+    // The work first.
+    take(&mut board, &[Step::deliver(1), Step::rest(1)]);
+    assert_eq!(board.units[1], waiting(32_768, 2));
+    take(&mut board, &[Step::tick(1), Step::deliver(0)]);
+    assert_eq!(board.units[1], waiting(16_777_216, 1));
 }
 
 #[test]

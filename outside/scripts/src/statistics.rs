@@ -3,7 +3,7 @@
 use crate::reasons::{line_reasons, step_reasons, unpadded, LINE_PAIRS, STEP_PAIRS};
 use reference::{
     is_padded, read_line, read_number, script_lines, walk, Board, Kind, Record, Slot, State, Step,
-    FULL_WEIGHT, WORDS,
+    FULL_WEIGHT, UNITS, WORDS,
 };
 use std::collections::BTreeMap;
 use std::fmt;
@@ -18,7 +18,7 @@ pub const REACHABLE: ([u16; 9], [u16; 19]) = (
 );
 
 /// What an accepted step can bring about, or a board can be seen in.
-const EVENTS: [&str; 38] = [
+const EVENTS: [&str; 42] = [
     "start of unit 0",
     "start of another unit",
     "start after a finish",
@@ -41,8 +41,10 @@ const EVENTS: [&str; 38] = [
     "return to another idle unit",
     "return to another active unit",
     "return to another suspended unit",
-    "return to a waiting unit, countdown d",
-    "return to a waiting unit, countdown below d",
+    "return to a waiting unit, d = 0",
+    "return to a waiting unit, countdown d above 0",
+    "return to a waiting unit, countdown 1 to d - 1",
+    "return to a waiting unit, countdown 0 below d",
     "grant",
     "supply to unit 0",
     "supply to another unit",
@@ -53,6 +55,8 @@ const EVENTS: [&str; 38] = [
     "tick to 0",
     "release with d = 0",
     "release after ticks",
+    "release after a return, countdown below d",
+    "release after a return, countdown 0 below d",
     "finish by a rest",
     "finish by a delivery",
     "two or more units suspended after a step",
@@ -149,6 +153,40 @@ const LENGTHS: [&str; 10] = [
 ];
 const SIZE_BOUNDS: [[usize; 5]; 3] = [[1, 5, 16, 32, 63], [1, 4, 16, 64, 255], [0, 1, 4, 20, 254]];
 
+/// What came before in a script and its board does not tell.
+struct Past {
+    finishes: u64,
+    /// By unit: the countdown at which the last return of its present wait was
+    /// delivered to it, if one was. Below d, a restart would have held up the
+    /// release (M-104).
+    returns: [Option<u16>; UNITS],
+}
+
+impl Past {
+    const NONE: Past = Past {
+        finishes: 0,
+        returns: [None; UNITS],
+    };
+
+    /// Takes in an accepted step.
+    fn add(&mut self, step: Step, before: &Board, after: &Board) {
+        self.finishes += u64::from(after.debt == 0);
+        if step.kind == Step::DELIVER {
+            let message = before.slots[usize::from(step.slot)];
+            let to = usize::from(message.to);
+            if message.kind == Kind::Return && before.units[to].state == State::Waiting {
+                self.returns[to] = Some(before.units[to].countdown);
+            }
+        }
+        // A wait ends with a release or with work.
+        for (at, unit) in self.returns.iter_mut().zip(&after.units) {
+            if unit.state != State::Waiting {
+                *at = None;
+            }
+        }
+    }
+}
+
 fn class(bounds: &[usize], value: usize) -> usize {
     bounds.iter().filter(|&&bound| bound < value).count()
 }
@@ -160,7 +198,7 @@ impl Statistics {
         self.bytes += script.len() as u64;
         self.lengths[class(&LENGTH_BOUNDS, script.len())] += 1;
         let mut before = Board::BLANK;
-        let mut finishes = 0;
+        let mut past = Past::NONE;
         let outcome = walk(script, |number, line, answer, board| {
             self.see_form(line, number == 0, answer);
             if number == 0 {
@@ -178,7 +216,8 @@ impl Statistics {
             self.answers[word.unwrap_or(WORDS.len())][usize::from(answer)] += 1;
             if let Ok(Record::Step(step)) = read_line(line, false) {
                 if answer == 0 {
-                    self.see(step, &before, board, finishes);
+                    self.see(step, &before, board, &past);
+                    past.add(step, &before, board);
                 } else {
                     self.see_refused(step, &before, answer);
                 }
@@ -190,9 +229,6 @@ impl Statistics {
             }
             if answer != 0 {
                 return;
-            }
-            if board.debt == 0 {
-                finishes += 1;
             }
             self.largest_debt = self.largest_debt.max(board.debt);
             before = board.clone();
@@ -207,7 +243,7 @@ impl Statistics {
             }
         }
         self.openings[usize::from(refusal)] += 1;
-        self.most_finishes = self.most_finishes.max(finishes);
+        self.most_finishes = self.most_finishes.max(past.finishes);
     }
 
     fn see_form(&mut self, line: &[u8], first: bool, answer: u16) {
@@ -260,7 +296,7 @@ impl Statistics {
     }
 
     /// Counts what an accepted step did.
-    fn see(&mut self, step: Step, before: &Board, after: &Board, finishes: u64) {
+    fn see(&mut self, step: Step, before: &Board, after: &Board, past: &Past) {
         let mut met = |event: &str, happened: bool| {
             let place = EVENTS.iter().position(|known| *known == event);
             self.events[place.expect(event)] += u64::from(happened);
@@ -271,7 +307,7 @@ impl Statistics {
             Step::START => {
                 met("start of unit 0", root);
                 met("start of another unit", !root);
-                met("start after a finish", finishes > 0);
+                met("start after a finish", past.finishes > 0);
             }
             Step::SEND => {
                 let left = after.units[usize::from(step.unit)].weight;
@@ -322,13 +358,19 @@ impl Statistics {
                         met("return to another idle unit", idle);
                         met("return to another active unit", active);
                         met("return to another suspended unit", to.suspended);
+                        let (countdown, d) = (to.countdown, before.d);
+                        met("return to a waiting unit, d = 0", waiting && d == 0);
                         met(
-                            "return to a waiting unit, countdown d",
-                            waiting && to.countdown == before.d,
+                            "return to a waiting unit, countdown d above 0",
+                            waiting && countdown == d && d > 0,
                         );
                         met(
-                            "return to a waiting unit, countdown below d",
-                            waiting && to.countdown < before.d,
+                            "return to a waiting unit, countdown 1 to d - 1",
+                            waiting && (1..d).contains(&countdown),
+                        );
+                        met(
+                            "return to a waiting unit, countdown 0 below d",
+                            waiting && countdown == 0 && d > 0,
                         );
                     }
                     Kind::Request => met("grant", true),
@@ -353,6 +395,13 @@ impl Statistics {
             _ => {
                 met("release with d = 0", before.d == 0);
                 met("release after ticks", before.d > 0);
+                let last_return = past.returns[usize::from(step.unit)];
+                let below = last_return.filter(|&countdown| countdown < before.d);
+                met("release after a return, countdown below d", below.is_some());
+                met(
+                    "release after a return, countdown 0 below d",
+                    below == Some(0),
+                );
             }
         }
         let suspended = after.units.iter().filter(|unit| unit.suspended).count();

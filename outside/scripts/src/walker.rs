@@ -322,7 +322,7 @@ impl<'r> Walker<'r> {
     }
 
     /// The waiting unit to go on with. A drain mostly takes the deepest, for
-    /// a return sets the countdown of a waiting parent back.
+    /// a parent that is released before a return comes has to wait again.
     fn waiter(&mut self, waiting: &[u16]) -> u16 {
         let depth = |unit: &u16| self.depths[usize::from(*unit)];
         match (self.mood, waiting.iter().copied().max_by_key(depth)) {

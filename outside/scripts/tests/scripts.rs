@@ -72,6 +72,49 @@ fn boards_hold() {
     }
 }
 
+/// How often a script meets an event, as the statistics print it.
+fn count_of(event: &str, script: &str) -> u64 {
+    let mut statistics = Statistics::default();
+    statistics.add(script.replace('|', "\t").as_bytes());
+    let text = statistics.to_string();
+    let mut counts = text
+        .lines()
+        .filter_map(|line| line.trim().strip_prefix(event));
+    counts.next().unwrap().trim().parse().unwrap()
+}
+
+/// The chain 0, 1, 2 with d = 2. A return finds unit 1 waiting after so many
+/// ticks; in the last row work ends the wait before the release.
+#[test]
+fn releases_after_returns_are_counted() {
+    for (ticks, further, at, below, at_zero) in [
+        ("", "tick|1\ntick|1\n", "d above 0", 0, 0),
+        ("tick|1\n", "tick|1\n", "1 to d - 1", 1, 0),
+        ("tick|1\ntick|1\n", "", "0 below d", 1, 1),
+        (
+            "tick|1\ntick|1\n",
+            "deliver|1\nrest|1\ntick|1\ntick|1\n",
+            "0 below d",
+            0,
+            0,
+        ),
+    ] {
+        let script = format!(
+            "board|2|2|0|1\nstart|2\nsend|2|1|0\ndeliver|0\nrest|1\nsend|2|1|1\n\
+            rest|2\ntick|2\ntick|2\nrelease|2|0\n{ticks}deliver|0\n{further}release|1|0\n"
+        );
+        for countdown in ["d above 0", "1 to d - 1", "0 below d"] {
+            let event = format!("return to a waiting unit, countdown {countdown}");
+            assert_eq!(count_of(&event, &script), u64::from(countdown == at));
+        }
+        let event = "release after a return, countdown below d";
+        assert_eq!(count_of(event, &script), below, "{script}");
+        let event = "release after a return, countdown 0 below d";
+        assert_eq!(count_of(event, &script), at_zero, "{script}");
+        assert_eq!(count_of("release after ticks", &script), 2, "{script}");
+    }
+}
+
 #[test]
 fn faults_are_found() {
     let script = b"board\t2\t0\nstart\t0\nsend\t0\t0\t0\nrest\t0\ndeliver\t0\nstart\t0\nrest\t0\n";
