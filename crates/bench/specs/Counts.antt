@@ -35,6 +35,9 @@ withDelay b d = record {
   parents = b .parents;
   units = b .units;
   slots = b .slots;
+  created = b .created;
+  processed = b .processed;
+  rounds = b .rounds;
 }
 
 -- with how many of the delays the board is sound

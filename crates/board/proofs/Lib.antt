@@ -5,3 +5,5 @@ pub mod RowLaws
 pub mod SlotLaws
 pub mod BoardLaws
 pub mod UnitLaws
+pub mod CountLaws
+pub mod SoundTest

@@ -7,15 +7,15 @@ use native.Mathlib.Omega.{arith}
 use lib.Dec.{ltb}
 use borrow.Author.Tests.{lt-ltb, le-ltb, ne-eqb}
 use Rattle.rules.specs.Facts.{Fact, atMost, equal, holds, Claims, tests}
-use Rattle.rules.specs.Words.{isIdle, isEmpty, slotAt}
-use Rattle.rules.specs.Sound.{stateRow, unitRow, kindRow, slotRow, lowerParent, parentRow, slotRowOn}
+use Rattle.rules.specs.Words.{isIdle, isEmpty}
+use Rattle.rules.specs.Sheets.Sheet.{Sheet, slotAt}
+use Rattle.rules.specs.Sheets.Sound.{stateRow, unitRow, kindRow, slotRow, lowerParent, parentRow, slotRowOn}
 use Rattle.rules.specs.declared.State.{State}
 use Rattle.rules.specs.declared.State.the-variants.{Idle, Active, Waiting}
 use Rattle.rules.specs.declared.Kind.{Kind}
 use Rattle.rules.specs.declared.Kind.the-variants.{Empty, Work, Return, Request, Supply}
 use Rattle.rules.specs.declared.UnitRecord.{UnitRecord}
 use Rattle.rules.specs.declared.Slot.{Slot}
-use Rattle.rules.specs.declared.Board.{Board}
 use Rattle.rules.proofs.SoundLaws.{row-of, row-past}
 use Rattle.board.proofs.TestLaws.{false-not-true, refuted, passed}
 
@@ -24,7 +24,7 @@ pub kind-arm : (n : ℕ) (ps : List ℕ) (y : Slot) (k : Kind) (r : Bool) → y 
 kind-arm n ps y k r e = subst (λ (k′ : Kind). r ≡ tests (kindRow n ps y k′)) (sym e)
 
 -- what is asked of slot j where `left` is left of the debt, as it is tested
-abbrev pub slotFacts : Board → ℕ → ℕ → List Fact
+abbrev pub slotFacts : Sheet → ℕ → ℕ → List Fact
 slotFacts b left j = atMost (slotAt b j .weight) left ∷ slotRowOn b j (slotAt b j)
 
 -- ---- an empty slot and an idle unit are asked the same in use and past the entries in use

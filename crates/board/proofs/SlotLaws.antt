@@ -11,12 +11,12 @@ use lib.Dec.{eqb}
 use borrow.Author.Count.{below-none, below-more}
 use borrow.Author.Tests.{eqb-true, eqb-false, ne-eqb}
 use Rattle.rules.specs.Facts.{Claims, Each, sumOf, oneIf}
-use Rattle.rules.specs.Words.{blankSlot, slotAt}
-use Rattle.rules.specs.Sound.{pendingIn, pending, slotsWeight, Sound, slotRowOn}
+use Rattle.rules.specs.Words.{isWork, blankSlot}
+use Rattle.rules.specs.Sheets.Sheet.{Sheet, slotAt}
+use Rattle.rules.specs.Sheets.Sound.{pendingIn, pending, slotsWeight, workUnderWay, slotRowOn, Sound}
 use Rattle.rules.specs.declared.Kind.{Kind}
 use Rattle.rules.specs.declared.Kind.the-variants.{Empty, Work, Return, Request, Supply}
 use Rattle.rules.specs.declared.Slot.{Slot}
-use Rattle.rules.specs.declared.Board.{Board}
 use Rattle.rules.proofs.FactLaws.{each-at, each-of}
 use Rattle.board.proofs.RowLaws.{slotFacts}
 use Rattle.board.specs.Passes.{Lengths, pendsFor}
@@ -63,35 +63,40 @@ pub none-counted : (u : ℕ) (counts : List ℕ) → 64 ≤ u → CountedFor u c
 none-counted u counts l = record { more = λ i p. rw (ne-eqb u i (λ e. omega arith)) (omega arith); as-long = refl }
 
 -- the unit that slot j pends for
-abbrev pub pendsAt : Board → ℕ → ℕ
+abbrev pub pendsAt : Sheet → ℕ → ℕ
 pendsAt b j = pendsFor (slotAt b j) (slotAt b j .kind)
 
 -- ---- once j slots are passed, and once all are
-pub record SlotsSeen (b : Board) (left : ℕ) (counts : List ℕ) (j : ℕ) : Type 0 where
+pub record SlotsSeen (b : Sheet) (left work : ℕ) (counts : List ℕ) (j : ℕ) : Type 0 where
   pub within : j ≤ 256
   pub seen : (k : ℕ) → k < j → Claims (slotRowOn b k (slotAt b k))
   pub leaves : left + slotsWeight (b .slots) ≡ b .debt + slotsWeight (drop j (b .slots))
   pub counted : (i : ℕ) → i < 64 → getD counts i 0 + pending (drop j (b .slots)) i ≡ pending (b .slots) i
   pub few : (i : ℕ) → i < 64 → getD counts i 0 ≤ j
+  pub worked : work + workUnderWay (drop j (b .slots)) ≡ workUnderWay (b .slots)
+  pub work-most : work ≤ j
   pub long : length counts ≡ 64
 
 -- each fits, what they leave of the debt, and what is pending for each unit
-pub record SlotsFit (b : Board) (left : ℕ) (counts : List ℕ) : Type 0 where
+pub record SlotsFit (b : Sheet) (left work : ℕ) (counts : List ℕ) : Type 0 where
   pub fit : Each (slotRowOn b) (b .slots)
   pub leaves : left + slotsWeight (b .slots) ≡ b .debt
   pub counted : (i : ℕ) → i < 64 → getD counts i 0 ≡ pending (b .slots) i
+  pub worked : work ≡ workUnderWay (b .slots)
 
-pub none-seen : (b : Board) → SlotsSeen b (b .debt) (replicate 64 0) 0
+pub none-seen : (b : Sheet) → SlotsSeen b (b .debt) 0 (replicate 64 0) 0
 none-seen b = record {
   within = omega arith;
   seen = below-none (λ k. Claims (slotRowOn b k (slotAt b k)));
   leaves = refl;
   counted = λ i l. omega (arith, zeros-at 64 i);
   few = λ i l. omega (arith, zeros-at 64 i);
+  worked = omega arith;
+  work-most = omega arith;
   long = refl;
 }
 
-module _ (b : Board) (lengths : Lengths b) (left : ℕ) (counts : List ℕ) (j : ℕ) (h : SlotsSeen b left counts j) where
+module _ (b : Sheet) (lengths : Lengths b) (left work : ℕ) (counts : List ℕ) (j : ℕ) (h : SlotsSeen b left work counts j) where
   weight-next : j < 256 → slotsWeight (drop j (b .slots)) ≡ slotAt b j .weight + slotsWeight (drop (j + 1) (b .slots))
   unfolding slotsWeight
   weight-next l = sum-next (λ y. y .weight) (b .slots) j blankSlot (omega (arith, lengths .of-slots))
@@ -102,13 +107,19 @@ module _ (b : Board) (lengths : Lengths b) (left : ℕ) (counts : List ℕ) (j :
       sum-next (λ y. pendingIn i y (y .kind)) (b .slots) j blankSlot (omega (arith, lengths .of-slots))
       ∙ rw (pends-in (slotAt b j) (slotAt b j .kind) i p)
 
-  pub one-more : (after : List ℕ) → CountedFor (pendsAt b j) counts after → j < 256 → Claims (slotFacts b left j) → SlotsSeen b (left - slotAt b j .weight) after (j + 1)
+  work-next : j < 256 → workUnderWay (drop j (b .slots)) ≡ oneIf (isWork (slotAt b j .kind)) + workUnderWay (drop (j + 1) (b .slots))
+  unfolding workUnderWay
+  work-next l = sum-next (λ y. oneIf (isWork (y .kind))) (b .slots) j blankSlot (omega (arith, lengths .of-slots))
+
+  pub one-more : (after : List ℕ) → CountedFor (pendsAt b j) counts after → j < 256 → Claims (slotFacts b left j) → SlotsSeen b (left - slotAt b j .weight) (work + oneIf (isWork (slotAt b j .kind))) after (j + 1)
   one-more after n l fits = record {
     within = omega arith;
     seen = below-more (λ k. Claims (slotRowOn b k (slotAt b k))) j (h .seen) (fits .1);
     leaves = omega (arith, weight-next l, h .leaves, fits .0);
     counted = λ i p. omega (arith, n .more i p, h .counted i p, pending-next l i p);
     few = λ i p. omega (arith, n .more i p, h .few i p, one-at-most (eqb (pendsAt b j) i));
+    worked = omega (arith, work-next l, h .worked);
+    work-most = omega (arith, h .work-most, one-at-most (isWork (slotAt b j .kind)));
     long = n .as-long ∙ h .long;
   }
 
@@ -117,10 +128,11 @@ module _ (b : Board) (lengths : Lengths b) (left : ℕ) (counts : List ℕ) (j :
   next-fits l s =
       (omega (arith, weight-next l, h .leaves, s .s5-s6-debt), each-at (slotRowOn b) (b .slots) j blankSlot (omega (arith, lengths .of-slots)) (s .s3-slots))
 
-  pub all-seen : 256 ≤ j → SlotsFit b left counts
-  unfolding slotsWeight pending
+  pub all-seen : 256 ≤ j → SlotsFit b left work counts
+  unfolding slotsWeight pending workUnderWay
   all-seen l = record {
     fit = each-of (slotRowOn b) (b .slots) blankSlot (λ k p. h .seen k (omega (arith, lengths .of-slots)));
     leaves = omega (arith, h .leaves, sum-end (λ y. y .weight) (b .slots) j (omega (arith, lengths .of-slots)));
     counted = λ i p. omega (arith, h .counted i p, sum-end (λ y. pendingIn i y (y .kind)) (b .slots) j (omega (arith, lengths .of-slots)));
+    worked = omega (arith, h .worked, sum-end (λ y. oneIf (isWork (y .kind))) (b .slots) j (omega (arith, lengths .of-slots)));
   }

@@ -5,7 +5,8 @@ use rules::Depth;
 ghost use mathlib.Core.Path.{_≡_};
 ghost use Prim.Native.Nat.{ℕ, _≤_, _<_};
 ghost use lib.ListN.{getD};
-ghost use Rattle.rules.specs.Depths.{depth, depthAnswer};
+ghost use Rattle.rules.specs.Sheets.Depths.{depth};
+ghost use Rattle.rules.specs.Depths.{depthAnswer};
 
 // The unit number falls at each call, since a parent has a lower one.
 fn depth_along(parents: &[u16; 64], u: u16) -> u16

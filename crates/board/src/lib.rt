@@ -1,4 +1,5 @@
 // Calls on a whole weight board, by value: is it sound, a fresh one, the depth of a unit, is the sheet complete.
+mod counts;
 mod depths;
 mod opening;
 mod rows;
@@ -17,6 +18,7 @@ ghost use Rattle.rules.specs.Guarantee.{Carries};
 ghost use Rattle.rules.specs.declared.Verdict.the-variants.{Finished};
 pub use depths::depth_of;
 pub use opening::blank;
+pub use opening::no_round;
 pub use opening::open;
 pub use soundness::is_sound;
 

@@ -2,6 +2,8 @@
 use rules::Board;
 use rules::Kind;
 use rules::Outcome;
+use rules::Round;
+use rules::Rounds;
 use rules::Slot;
 use rules::State;
 use rules::UnitRecord;
@@ -10,7 +12,21 @@ ghost use mathlib.Core.List.{_∷_, _++_};
 ghost use Prim.Native.Nat.{_≤_, _-_};
 ghost use lib.ListN.{length, replicate};
 ghost use Rattle.rules.specs.Facts.{judge};
+ghost use Rattle.rules.specs.Rounds.{noRound};
 ghost use Rattle.rules.specs.Opening.{lowerParents, openingChecks, blankBoard, opening};
+
+// No counting round: none is visited, and both totals are 0.
+pub fn no_round() -> Rounds
+    ensures { λ r. ⌜ r ≡ noRound ⌝ }
+{
+    let visited = [false; 64];
+    Rounds {
+        round: Round::None,
+        visited,
+        processed: 0,
+        created: 0,
+    }
+}
 
 // The board that a refused opening hands back. Apart from the loops: a repeated record becomes a store for each element.
 pub fn blank() -> Board
@@ -31,6 +47,8 @@ pub fn blank() -> Board
     let parents = [0u16; 64];
     let units = [unit; 64];
     let slots = [slot; 256];
+    let created = [0u32; 64];
+    let processed = [0u64; 64];
     Board {
         n: 0,
         m: 0,
@@ -39,6 +57,9 @@ pub fn blank() -> Board
         parents: parents,
         units: units,
         slots: slots,
+        created,
+        processed,
+        rounds: no_round(),
     }
 }
 

@@ -7,8 +7,9 @@ use rules::Slot;
 ghost use mathlib.Core.Path.{_≡_};
 ghost use mathlib.Core.List.{[]};
 ghost use lib.ListN.{getD};
-ghost use Rattle.rules.specs.Facts.{tests};
-ghost use Rattle.rules.specs.Sound.{kindRow, slotRow};
+ghost use Rattle.rules.specs.Facts.{tests, oneIf};
+ghost use Rattle.rules.specs.Words.{isWork};
+ghost use Rattle.rules.specs.Sheets.Sound.{kindRow, slotRow};
 ghost use Rattle.board.specs.Passes.{pendsFor};
 
 fn empty_fits(y: Slot) -> bool
@@ -92,4 +93,15 @@ pub(crate) fn pends_for(y: Slot) -> u16
         Kind::Request => y.from,
         Kind::Supply => y.to,
     }
+}
+
+// 1 where the slot is work under way.
+pub(crate) fn work_in(y: Slot) -> u64
+    ensures { λ r. ⌜ r ≡ oneIf (isWork (y .kind)) ⌝ }
+{
+    let k = y.kind;
+    if k.is_work() {
+        return 1;
+    }
+    0
 }

@@ -1,7 +1,9 @@
-// Whether a board is sound: one pass over the slots, then one over the units and their parents. No other function takes the board,
+// Whether a board is sound: one pass over the slots, one over the units and their parents, one over their counts. No other function takes the board,
 // since each that does copies it; what is called for an entry takes single records and numbers.
+use crate::counts::counts_fit;
 use crate::slots::pends_for;
 use crate::slots::slot_fits;
+use crate::slots::work_in;
 use crate::units::entry_fits;
 use rules::Board;
 use rules::CEILING;
@@ -9,11 +11,13 @@ ghost use mathlib.Core.Path.{_≡_};
 ghost use mathlib.Core.List.{_∷_};
 ghost use Rattle.rules.specs.Facts.{tests, atMost};
 ghost use Rattle.rules.specs.Words.{ceiling};
-ghost use Rattle.rules.specs.Sound.{sizes, sound};
+ghost use Rattle.rules.specs.Sheets.Sound.{sizes};
+ghost use Rattle.rules.specs.Boards.{view};
+ghost use Rattle.rules.specs.Sound.{sound};
 ghost use Rattle.board.specs.Passes.{Lengths};
 
 fn ranges_fit(n: u16, m: u16, delay: u16, debt: u64) -> bool
-    ensures { λ r. ⌜ ((b : Board) → Lengths b → b .n ≡ n → b .m ≡ m → b .delay ≡ delay → b .debt ≡ debt → r ≡ tests (atMost (b .debt) ceiling ∷ sizes b)) ⌝ }
+    ensures { λ r. ⌜ ((b : Board) → Lengths (view b) → b .n ≡ n → b .m ≡ m → b .delay ≡ delay → b .debt ≡ debt → r ≡ tests (atMost (b .debt) ceiling ∷ sizes (view b))) ⌝ }
 {
     if n < 1 {
         return false;
@@ -45,6 +49,7 @@ pub fn is_sound(b: Board) -> bool
     }
     let ps = b.parents;
     let mut left = b.debt;
+    let mut work: u64 = 0;
     let mut pending = [0u16; 64];
     for j in 0..256 {
         let y = b.slots[j];
@@ -55,6 +60,7 @@ pub fn is_sound(b: Board) -> bool
             return false;
         }
         left -= y.weight;
+        work += work_in(y);
         let u = pends_for(y) as usize;
         if u < 64 {
             pending[u] += 1;
@@ -70,5 +76,8 @@ pub fn is_sound(b: Board) -> bool
         }
         left -= u.weight;
     }
-    left == 0
+    if left != 0 {
+        return false;
+    }
+    counts_fit(b.created, b.processed, b.rounds, b.n, work)
 }

@@ -6,7 +6,7 @@ use rules::UnitRecord;
 ghost use mathlib.Core.Path.{_≡_};
 ghost use lib.Dec.{eqb};
 ghost use Rattle.rules.specs.Facts.{tests, oneIf};
-ghost use Rattle.rules.specs.Sound.{stateRow, unitRow, parentRow};
+ghost use Rattle.rules.specs.Sheets.Sound.{stateRow, unitRow, parentRow};
 ghost use Rattle.board.specs.Passes.{entryRow};
 
 fn idle_fits(u: UnitRecord) -> bool

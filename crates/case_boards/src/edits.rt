@@ -28,6 +28,13 @@ pub(crate) fn with_debt(mut b: Board, debt: u64) -> Board {
     b
 }
 
+pub(crate) fn with_created(mut b: Board, i: usize, count: u32) -> Board
+    requires { ⌜ i < 64 ⌝ }
+{
+    b.created[i] = count;
+    b
+}
+
 pub(crate) fn with_parent(mut b: Board, i: usize, parent: u16) -> Board
     requires { ⌜ i < 64 ⌝ }
 {

@@ -2,6 +2,7 @@
 use crate::GRANT;
 use crate::LARGEST;
 use crate::MOST;
+use crate::edits::with_created;
 use crate::edits::with_debt;
 use crate::edits::with_slot;
 use crate::edits::with_unit;
@@ -70,9 +71,9 @@ fn asking(weight: u64, debt: u64) -> Board {
     with_slot(b, 0, request(2))
 }
 
-// Unit 1 has the weight, and there is work under way.
+// Unit 1 has the weight, and work that it created is under way.
 fn sending(weight: u64, under_way: u64, debt: u64) -> Board {
-    with_slot(opened(weight, debt), 0, work(under_way))
+    with_created(with_slot(opened(weight, debt), 0, work(under_way)), 1, 1)
 }
 
 // Two small units, and what is under way in slots 0 and 1.

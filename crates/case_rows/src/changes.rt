@@ -6,6 +6,7 @@ use crate::print::text;
 use crate::print::word;
 use rules::Board;
 use rules::Kind;
+use rules::Round;
 use rules::Slot;
 use rules::State;
 use rules::UnitRecord;
@@ -15,6 +16,8 @@ const STATES: [u8; 19] = *b"idle\tactive\twaiting";
 const KINDS: [u8; 32] = *b"empty\twork\treturn\trequest\tsupply";
 
 const SUSPENSIONS: [u8; 14] = *b"free\tsuspended";
+
+const ROUNDS: [u8; 12] = *b"none\tone\ttwo";
 
 // The place of a state among their words.
 fn state_place(s: State) -> u64 {
@@ -52,7 +55,34 @@ fn slot_entry(y: Slot) -> [u64; 4] {
     [kind_place(k), y.from as u64, y.to as u64, y.weight]
 }
 
-// The entries of a board: 64 parents, 64 units, 256 slots.
+// The place of a round among their words.
+fn round_place(r: Round) -> u64 {
+    match r {
+        Round::None => 0,
+        Round::One => 1,
+        Round::Two => 2,
+    }
+}
+
+fn marks_entry(b: Board, i: usize) -> [u64; 4] {
+    let k = b.rounds;
+    let marks = k.visited;
+    if i < 64 {
+        return [marks[i] as u64, 0, 0, 0];
+    }
+    let r = k.round;
+    [round_place(r), k.processed, k.created, 0]
+}
+
+// The entries of the counting rounds, and of what they count: 64 counts, 64 marks, the open round with the totals.
+fn rounds_entry(b: Board, i: usize) -> [u64; 4] {
+    if i < 64 {
+        return [b.created[i] as u64, b.processed[i], 0, 0];
+    }
+    marks_entry(b, i - 64)
+}
+
+// The entries of a board: 64 parents, 64 units, 256 slots, then those of the rounds.
 fn entry(b: Board, i: usize) -> [u64; 4] {
     if i < 64 {
         return [b.parents[i] as u64, 0, 0, 0];
@@ -63,7 +93,7 @@ fn entry(b: Board, i: usize) -> [u64; 4] {
     if i < 384 {
         return slot_entry(b.slots[i - 128]);
     }
-    [0, 0, 0, 0]
+    rounds_entry(b, i - 384)
 }
 
 fn same(x: [u64; 4], y: [u64; 4]) -> bool {
@@ -97,20 +127,53 @@ fn tell_slot(i: usize, e: [u64; 4]) {
     cell(e[3]);
 }
 
+fn tell_counts(i: usize, e: [u64; 4]) {
+    under(b"counts", i as u64);
+    cell(e[0]);
+    cell(e[1]);
+}
+
+fn tell_mark(i: usize, e: [u64; 4]) {
+    under(b"mark", i as u64);
+    cell(e[0]);
+}
+
+fn tell_round(e: [u64; 4]) {
+    newline();
+    tab();
+    text(b"round");
+    tab();
+    word(&ROUNDS, e[0] as usize);
+    cell(e[1]);
+    cell(e[2]);
+}
+
+fn tell_rounds(i: usize, e: [u64; 4]) {
+    if i < 64 {
+        tell_counts(i, e);
+    } else if i < 128 {
+        tell_mark(i - 64, e);
+    } else {
+        tell_round(e);
+    }
+}
+
 fn tell_entry(i: usize, e: [u64; 4]) {
     if i < 64 {
         under(b"parent", i as u64);
         cell(e[0]);
     } else if i < 128 {
         tell_unit(i - 64, e);
-    } else {
+    } else if i < 384 {
         tell_slot(i - 128, e);
+    } else {
+        tell_rounds(i - 384, e);
     }
 }
 
 fn entries_same(a: Board, b: Board) -> bool {
     let mut all = true;
-    for i in 0..384 {
+    for i in 0..513 {
         let e = entry(b, i);
         if !same(entry(a, i), e) {
             tell_entry(i, e);

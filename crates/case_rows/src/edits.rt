@@ -4,10 +4,14 @@ use crate::words;
 use rules::Board;
 use rules::Kind;
 use rules::Outcome;
+use rules::Round;
+use rules::Rounds;
 use rules::Slot;
 use rules::State;
 use rules::StepRecord;
 use rules::UnitRecord;
+use std::num::wrapping_add_u32;
+use std::num::wrapping_sub_u32;
 
 // The most parents that a case can ask for: more than 8 bits count.
 const MOST: usize = 320;
@@ -18,6 +22,14 @@ pub(crate) fn small(x: u64) -> u16 {
         return 65535;
     }
     x as u16
+}
+
+// A number of a case as a count of 32 bits.
+fn cut(x: u64) -> u32 {
+    if x > 4294967295 {
+        return 4294967295;
+    }
+    x as u32
 }
 
 pub(crate) fn step_of(row: [u64; 5]) -> StepRecord {
@@ -81,12 +93,22 @@ fn with_unit(mut b: Board, row: [u64; 5]) -> Board {
     b
 }
 
+// 1 where work is under way in the slot.
+fn work_in(y: Slot) -> u32 {
+    let k = y.kind;
+    if k.is_work() {
+        return 1;
+    }
+    0
+}
+
 fn with_slot(mut b: Board, row: [u64; 5]) -> Board {
     let j = row[1] as usize;
     if j < 256 {
         let y = slot_of(row);
         let old = b.slots[j];
         b.debt = moved(b.debt, old.weight, y.weight);
+        b.created[0] = wrapping_add_u32(wrapping_sub_u32(b.created[0], work_in(old)), work_in(y));
         b.slots[j] = y;
     }
     b
@@ -109,6 +131,48 @@ fn with_sizes(mut b: Board, row: [u64; 5]) -> Board {
 
 fn with_debt(mut b: Board, debt: u64) -> Board {
     b.debt = debt;
+    b
+}
+
+fn with_counts(mut b: Board, row: [u64; 5]) -> Board {
+    let i = row[1] as usize;
+    if i < 64 {
+        b.created[i] = cut(row[2]);
+        b.processed[i] = row[3];
+    }
+    b
+}
+
+fn round_of(k: u64) -> Round {
+    match k {
+        0 => Round::None,
+        1 => Round::One,
+        _ => Round::Two,
+    }
+}
+
+fn with_round(mut b: Board, row: [u64; 5]) -> Board {
+    let k = b.rounds;
+    let visited = k.visited;
+    let rounds = Rounds {
+        round: round_of(row[1]),
+        visited,
+        processed: row[2],
+        created: row[3],
+    };
+    b.rounds = rounds;
+    b
+}
+
+fn with_mark(mut b: Board, row: [u64; 5]) -> Board {
+    let i = row[1] as usize;
+    let mut k = b.rounds;
+    let mut marks = k.visited;
+    if i < 64 {
+        marks[i] = row[2] != 0;
+    }
+    k.visited = marks;
+    b.rounds = k;
     b
 }
 
@@ -158,6 +222,11 @@ pub(crate) fn after(b: Board, row: [u64; 5]) -> Board {
         words::PARENT => with_parent(b, row),
         words::DEBT => with_debt(b, row[1]),
         words::IDLE_UNIT | words::ACTIVE_UNIT | words::WAITING_UNIT => with_unit(b, row),
+        words::COUNTS => with_counts(b, row),
+        words::ROUND => with_round(b, row),
+        words::MARK => with_mark(b, row),
+        words::BEGIN => rounds::begin(b).board,
+        words::VISIT => rounds::visit(b, small(row[1])).board,
         _ => with_slot(b, row),
     }
 }

@@ -50,7 +50,7 @@ fn step(line: &[u8]) -> [u64; 5] {
 }
 
 pub(crate) fn case_of(line: &[u8]) -> [u64; 5] {
-    let what = place_of(field(line, 0), &CASES, 14) as u64;
+    let what = place_of(field(line, 0), &CASES, 19) as u64;
     if what == STEP {
         return step(line);
     }

@@ -12,6 +12,7 @@ use crate::words;
 use crate::words::CASES;
 use crate::words::KINDS;
 use rules::Board;
+use rules::Finding;
 use rules::Outcome;
 use rules::StepRecord;
 
@@ -68,6 +69,44 @@ fn depth(b: Board, row: [u64; 5]) -> Board {
     b
 }
 
+fn begin(b: Board) -> Board {
+    text(b"begin");
+    outcome(b, rounds::begin(b), b"kept")
+}
+
+// The finding's word.
+fn finding(x: Finding) {
+    match x {
+        Finding::NoVerdict => text(b"no verdict yet"),
+        Finding::AllQuiet => text(b"quiet"),
+        Finding::Unsettled => text(b"unsettled"),
+        Finding::Refused(_) => text(b"refused"),
+    }
+}
+
+// The finding's number.
+fn number_of(x: Finding) -> u16 {
+    match x {
+        Finding::NoVerdict => 0,
+        Finding::AllQuiet => 0,
+        Finding::Unsettled => 0,
+        Finding::Refused(k) => k,
+    }
+}
+
+fn visit(b: Board, row: [u64; 5]) -> Board {
+    text(b"visit");
+    cell(row[1]);
+    tab();
+    let v = rounds::visit(b, edits::small(row[1]));
+    let x = v.finding;
+    finding(x);
+    let answer = number_of(x);
+    let board = v.board;
+    let out = Outcome { board, answer };
+    outcome(b, out, b"kept")
+}
+
 fn soundness(sound: bool) {
     if sound {
         text(b"sound");
@@ -105,6 +144,8 @@ pub(crate) fn case(b: Board, row: [u64; 5]) -> Board {
         words::OPEN | words::CHAIN => opening(row),
         words::STEP => step(b, row),
         words::DEPTH => depth(b, row),
+        words::BEGIN => begin(b),
+        words::VISIT => visit(b, row),
         _ => edit(b, row),
     }
 }

@@ -11,7 +11,8 @@ pub(crate) const CHAIN: u64 = 1;
 // A question: the unit whose depth is asked for.
 pub(crate) const DEPTH: u64 = 2;
 
-// The cases from here on build a board directly, or damage one. The debt follows the weights, but for the case that sets it.
+// The cases from here on build a board directly, or damage one. The debt follows the weights and unit 0's created count the work under
+// way, but for the cases that set them.
 // n, M, d.
 pub(crate) const SIZES: u64 = 3;
 
@@ -37,11 +38,25 @@ pub(crate) const REQUEST_SLOT: u64 = 12;
 
 pub(crate) const SUPPLY_SLOT: u64 = 13;
 
-// Any other word is the kind of a step, as a word or as a number; then unit, other, slot.
-pub(crate) const STEP: u64 = 14;
+// The counting rounds, and what they count (M-105). A unit, how often it created work and processed it.
+pub(crate) const COUNTS: u64 = 14;
 
-pub(crate) const CASES: [u8; 127] =
-    *b"open\tchain\tdepth\tsizes\tparent\tdebt\tidle unit\tactive unit\twaiting unit\tempty slot\twork slot\treturn slot\trequest slot\tsupply slot";
+// Which round is open (0 for none), round one's total, round two's.
+pub(crate) const ROUND: u64 = 15;
+
+// A unit, 1 if the open round has visited it.
+pub(crate) const MARK: u64 = 16;
+
+// A beginning; and a visit of a unit.
+pub(crate) const BEGIN: u64 = 17;
+
+pub(crate) const VISIT: u64 = 18;
+
+// Any other word is the kind of a step, as a word or as a number; then unit, other, slot.
+pub(crate) const STEP: u64 = 19;
+
+pub(crate) const CASES: [u8; 157] =
+    *b"open\tchain\tdepth\tsizes\tparent\tdebt\tidle unit\tactive unit\twaiting unit\tempty slot\twork slot\treturn slot\trequest slot\tsupply slot\tcounts\tround\tmark\tbegin\tvisit";
 
 // The kinds of a step, from 1.
 pub(crate) const KINDS: [u8; 44] = *b"start\tsend\trequest\tdeliver\trest\ttick\trelease";

@@ -8,14 +8,19 @@ use lib.ListN.{length, drop, length-append}
 use lib.Dec.{leb, eqb}
 use borrow.Author.Tests.{le-leb, ne-eqb}
 use Rattle.rules.specs.Events.{afterAll, allAnswers}
-use Rattle.rules.specs.Finished.{toldFrom}
+use Rattle.rules.specs.Sheets.Finished.{toldFrom}
 use Rattle.rules.specs.Sound.{Sound}
-use Rattle.rules.specs.Steps.{recordRule, effect, applied, soundStep, step}
+use Rattle.rules.specs.Effects.{recordRule}
+use Rattle.rules.specs.Sheets.Sheet.{Outcome as SheetOutcome}
+use Rattle.rules.specs.Sheets.Steps.{effect, applied, soundStep as soundSheetStep}
+use Rattle.rules.specs.Boards.{view}
+use Rattle.rules.specs.Steps.{onBoard, soundStep, step}
+use Rattle.rules.specs.declared.Action.the-variants.{Unknown}
 use Rattle.rules.specs.Lists.{after, answers}
 use Rattle.rules.specs.Runs.{debts}
-use Rattle.rules.proofs.Changes.{refused-applied}
-use Rattle.rules.proofs.Accepted.{step-sound}
-use Rattle.rules.proofs.ListLaws.{step-keeps-sound}
+use Rattle.rules.proofs.Sheets.Changes.{refused-applied}
+use Rattle.rules.proofs.Views.{step-sound}
+use Rattle.rules.proofs.EventSound.{step-keeps-sound}
 use Rattle.rules.proofs.FinishedLaws.{verdict-sound}
 use Rattle.rules.specs.declared.Board.{Board}
 use Rattle.rules.specs.declared.Outcome.{Outcome}
@@ -88,8 +93,8 @@ part-batched (suc k) at n b s room l = by-end (leb (length s) at) l (part-batche
 -- ---- lines as step records
 -- a record of kind 0 is refused and leaves a sound board as it was
 unknown-keeps : (b : Board) → Sound b → step b noStep .board ≡ b
-unfolding recordRule effect applied soundStep
-unknown-keeps b h = ap (λ (o : Outcome). o .board) (step-sound b noStep h ∙ refused-applied b 0 0 16)
+unfolding recordRule effect applied soundSheetStep soundStep
+unknown-keeps b h = ap (λ (o : Outcome). o .board) (step-sound b noStep h ∙ ap (λ (o : SheetOutcome). onBoard (b .rounds) Unknown o) (refused-applied (view b) Unknown 0 0 16))
 
 line-board : (b : Board) → Sound b → (x : Reading) → step b (recordOf x) .board ≡ lineOutcome b x .board
 line-board b h (Opens m d n) = unknown-keeps b h

@@ -12,7 +12,7 @@ use Rattle.rules.specs.Sound.{Sound}
 use Rattle.rules.specs.Finished.{verdict}
 use Rattle.rules.proofs.FactLaws.{true-not-false}
 use Rattle.rules.proofs.AnswerLaws.{answer-short}
-use Rattle.rules.proofs.ListLaws.{step-keeps-sound}
+use Rattle.rules.proofs.EventSound.{step-keeps-sound}
 use Rattle.rules.specs.declared.Board.{Board}
 use Rattle.rules.specs.declared.Outcome.{Outcome}
 use Rattle.rules.specs.declared.Verdict.{Verdict}
@@ -65,7 +65,7 @@ outcome-sound b (Refused k) h = h
 
 pub later-most : (n : ℕ) (b : Board) (l : List ℕ) → n ≤ 4294967295 → Sound b → length (boardText n (laterOutcome b l .answer) (laterOutcome b l .board)) ≤ longestLine
 later-most n b l p h =
-    line-most n _ _ (verdict (laterOutcome b l .board)) p (outcome-short b (reading false l) (λ k e. reading-number false l k e .1)) (outcome-sound b (reading false l) h .s5-s6-debt .1 .0)
+    line-most n _ _ (verdict (laterOutcome b l .board)) p (outcome-short b (reading false l) (λ k e. reading-number false l k e .1)) (outcome-sound b (reading false l) h .sheet .s5-s6-debt .1 .0)
 
 -- ---- a batch of lines
 pub number-fits : (n : ℕ) → nextNumber n ≤ 4294967295

@@ -9,12 +9,12 @@ use lib.ListN.{length, take, length-append}
 use lib.Seq.{take-append-add}
 use borrow.Author.Tests.{eq-eqb}
 use Rattle.rules.specs.Events.{afterAll}
-use Rattle.rules.specs.Lists.{steps, after}
+use Rattle.rules.specs.Lists.{steps, after, taking}
 use Rattle.rules.specs.Finished.{verdict}
-use Rattle.rules.specs.Guarantee.{Guaranteed, GuaranteeOf}
+use Rattle.rules.specs.Guarantee.{Guaranteed}
 use Rattle.rules.proofs.SoundLaws.{below-or-not}
 use Rattle.rules.proofs.EventLaws.{after-append}
-use Rattle.rules.proofs.Theorem.{guarantee}
+use Rattle.rules.proofs.Theorem.{steps-guaranteed}
 use Rattle.rules.specs.declared.Board.{Board}
 use Rattle.rules.specs.declared.StepRecord.{StepRecord}
 use Rattle.rules.specs.declared.Outcome.{Outcome}
@@ -48,11 +48,10 @@ opened-by s e =
     by-reading (LineRefused k) is q = absurd (omega (arith, e, ap (λ (o : Outcome). o .answer) q, reading-number true (upTo 10 s) k is))
 
 -- so the guarantee holds of every list of steps from its board on
-opened-guaranteed : (s : List ℕ) → startOutcome s .answer ≡ 0 → OpenedBy s → (rs : List StepRecord) → Guaranteed (startOutcome s .board) rs (after (startOutcome s .board) rs)
-unfolding GuaranteeOf
+opened-guaranteed : (s : List ℕ) → startOutcome s .answer ≡ 0 → OpenedBy s → (rs : List StepRecord) → Guaranteed (startOutcome s .board) (taking rs) (after (startOutcome s .board) rs)
 opened-guaranteed s e o rs =
-    subst (λ (x : Outcome). Guaranteed (x .board) rs (after (x .board) rs)) (sym (o .opens))
-    (guarantee (o .m) (o .d) (parentsOf (upTo 10 s)) rs (sym (ap (λ (x : Outcome). x .answer) (o .opens)) ∙ e))
+    subst (λ (x : Outcome). Guaranteed (x .board) (taking rs) (after (x .board) rs)) (sym (o .opens))
+    (steps-guaranteed (o .m) (o .d) (parentsOf (upTo 10 s)) rs (sym (ap (λ (x : Outcome). x .answer) (o .opens)) ∙ e))
 
 -- ---- the board after script lines is the one that their steps left
 line-after : (b : Board) (x : Reading) → lineOutcome b x .board ≡ after b (askedBy x)
@@ -76,11 +75,11 @@ one-line-more f ks l =
     ∙ ap (after f) (sym (steps-append ks (l ∷ [])))
 
 -- ---- every line says it, where the guarantee holds of every list of steps from the board f on
-module _ (f : Board) (holds : (rs : List StepRecord) → Guaranteed f rs (after f rs)) where
+module _ (f : Board) (holds : (rs : List StepRecord) → Guaranteed f (taking rs) (after f rs)) where
   line-says : (ls : List (List ℕ)) (l : Line) → l .board ≡ after f (stepsOf (take (l .number) ls)) → Says f ls l
   line-says ls l e =
       let rs : List StepRecord = stepsOf (take (l .number) ls) in
-      let g : Guaranteed f rs (l .board) = subst (Guaranteed f rs) (sym e) (holds rs) in
+      let g : Guaranteed f (taking rs) (l .board) = subst (Guaranteed f (taking rs)) (sym e) (holds rs) in
       record { guaranteed = g; finished = (λ w. g .finished .0 (word-finished (verdict (l .board)) w), λ c. ap stateWord (g .finished .1 c)) }
 
   -- the lines ks were read, and the lines ls are left

@@ -9,7 +9,7 @@ use native.Mathlib.Omega.{arith}
 use lib.ListN.{length, getD, take, drop, length-append, length-take, drop-of-length-le}
 use lib.Dec.{eqb}
 use lib.Seq.{sets, length-sets, drop-cons, getD-take}
-use Rattle.rules.specs.Finished.{toldFrom}
+use Rattle.rules.specs.Sheets.Finished.{toldFrom}
 use Rattle.rules.specs.Runs.{batchMost}
 use Rattle.rules.specs.declared.Verdict.{Verdict}
 use Rattle.placing.specs.Placing.{wrote, written}

@@ -7,6 +7,7 @@ use Prim.Native.Nat.{ℕ}
 use lib.ListN.{take, drop}
 use Rattle.rules.specs.Opening.{opening}
 use Rattle.rules.specs.Finished.{verdict, Complete}
+use Rattle.rules.specs.Lists.{taking}
 use Rattle.rules.specs.Guarantee.{Guaranteed}
 use Rattle.rules.specs.declared.Board.{Board}
 use Rattle.rules.specs.declared.StepRecord.{StepRecord}
@@ -38,7 +39,7 @@ stepsOf (l ∷ ls) = askedBy (reading false l) ++ stepsOf ls
 
 -- what holds of a line of the listing, where f is the board that the first line opened and ls are the script lines behind it. The line's number is how many of these were read so far
 pub record Says (f : Board) (ls : List (List ℕ)) (l : Line) : Type 0 where
-  pub guaranteed : Guaranteed f (stepsOf (take (l .number) ls)) (l .board)
+  pub guaranteed : Guaranteed f (taking (stepsOf (take (l .number) ls))) (l .board)
   pub finished : (stateWord (verdict (l .board)) ≡ finishedWord) ↔ Complete (l .board)
 
 abbrev pub AllSay : Board → List (List ℕ) → List Line → Type 0

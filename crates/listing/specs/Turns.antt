@@ -7,7 +7,7 @@ use Prim.Native.Nat.{ℕ, _+_, _-_, _/_, min, max}
 use lib.ListN.{length, take}
 use lib.Dec.{eqb}
 use lib.Seq.{sets}
-use Rattle.rules.specs.Finished.{toldFrom}
+use Rattle.rules.specs.Sheets.Finished.{toldFrom}
 use Rattle.rules.specs.Runs.{batchMost}
 use Rattle.placing.specs.Placing.{wrote, written}
 use Rattle.placing.specs.declared.Wrote.{Wrote}

@@ -8,7 +8,7 @@ ghost use mathlib.Core.Bool.{cond};
 ghost use Prim.Native.Nat.{_≤_};
 ghost use lib.Dec.{eqb};
 ghost use lib.ListN.{length, take};
-ghost use Rattle.rules.specs.Finished.{toldFrom};
+ghost use Rattle.rules.specs.Sheets.Finished.{toldFrom};
 ghost use Rattle.rules.specs.Runs.{batchMost};
 ghost use Rattle.rules.specs.declared.Verdict.the-variants.{Working, Finished};
 ghost use Rattle.listing.specs.Parts.{nextNumber};

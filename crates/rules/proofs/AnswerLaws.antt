@@ -5,13 +5,16 @@ use Prim.Native.Nat.{ℕ, _-_, _<_}
 use native.Mathlib.Omega.{arith}
 use lib.Dec.{eqb}
 use Rattle.rules.specs.Facts.{judge}
-use Rattle.rules.specs.Words.{parentAt, unitAt, slotAt}
 use Rattle.rules.specs.Sound.{sound}
 use Rattle.rules.specs.Actions.{actionOf}
 use Rattle.rules.specs.Letters.{slotOf, placeChecks}
-use Rattle.rules.specs.Steps.{deliverEffect, unitOf, recordChecks, recordEffect, recordRule, effectBy, effect, applied, soundStep, step}
+use Rattle.rules.specs.Effects.{deliverEffect, recordChecks, recordEffect, recordRule}
+use Rattle.rules.specs.Sheets.Sheet.{Sheet, parentAt, unitAt, slotAt}
+use Rattle.rules.specs.Sheets.Steps.{unitOf, madeAt, effectBy, effect, applied, soundStep as sheetSoundStep}
+use Rattle.rules.specs.Boards.{view}
+use Rattle.rules.specs.Steps.{soundStep, step}
 use Rattle.rules.proofs.FactLaws.{judge-passed}
-use Rattle.rules.proofs.Accepted.{place-numbered, record-numbered}
+use Rattle.rules.proofs.Sheets.Accepted.{place-numbered, record-numbered}
 use Rattle.rules.proofs.JudgeLaws.{Judged, passed, failed, judged}
 use Rattle.rules.specs.declared.Kind.{Kind}
 use Rattle.rules.specs.declared.Kind.the-variants.{Empty, Work, Return, Request, Supply}
@@ -57,25 +60,26 @@ judged-short : (cs : _) (e : Effect) → Judged Refused cs e → Short e → Sho
 judged-short cs e (passed c) p = subst Short (sym (judge-passed Refused cs e c)) p
 judged-short cs e (failed k l q) p = subst Short (sym q) (l .1)
 
-effect-short : (b : Board) (r : StepRecord) (a : Action) → Short (effectBy b r a)
+effect-short : (b : Sheet) (r : StepRecord) (a : Action) → Short (effectBy b r a)
 unfolding recordRule
 effect-short b r a =
     judged-short (placeChecks (b .n) (b .m) r a) _ (judged Refused (placeChecks (b .n) (b .m) r a) _ (place-numbered (b .n) (b .m) r a))
-    (judged-short (recordChecks (b .debt) (unitAt b (unitOf b r a)) (slotAt b (slotOf r a)) a) _
-    (judged Refused (recordChecks (b .debt) (unitAt b (unitOf b r a)) (slotAt b (slotOf r a)) a) _ (record-numbered (b .debt) (unitAt b (unitOf b r a)) (slotAt b (slotOf r a)) a))
+    (judged-short (recordChecks (b .debt) (unitAt b (unitOf b r a)) (slotAt b (slotOf r a)) (madeAt b (unitOf b r a)) a) _
+    (judged Refused (recordChecks (b .debt) (unitAt b (unitOf b r a)) (slotAt b (slotOf r a)) (madeAt b (unitOf b r a)) a) _ (record-numbered (b .debt) (unitAt b (unitOf b r a)) (slotAt b (slotOf r a)) (madeAt b (unitOf b r a)) a))
     (done-short (b .debt) (b .delay) r (unitAt b (unitOf b r a)) (parentAt b (unitOf b r a)) (slotAt b (slotOf r a)) a))
 
-applied-short : (b : Board) (u s : ℕ) (e : Effect) → Short e → applied b u s e .answer < 100
+applied-short : (b : Sheet) (a : Action) (u s : ℕ) (e : Effect) → Short e → applied b a u s e .answer < 100
 unfolding applied
-applied-short b u s (Refused k) p = p
-applied-short b u s (OnUnit x debt) p = omega arith
-applied-short b u s (OnSlot y debt) p = omega arith
-applied-short b u s (OnBoth x y debt) p = omega arith
+applied-short b a u s (Refused k) p = p
+applied-short b a u s (OnUnit x debt) p = omega arith
+applied-short b a u s (OnSlot y debt) p = omega arith
+applied-short b a u s (OnBoth x y debt) p = omega arith
 
 pub answer-short : (b : Board) (r : StepRecord) → step b r .answer < 100
-unfolding step soundStep effect
+unfolding step soundStep sheetSoundStep effect
 answer-short b r = by-test (sound b)
   where
     by-test : (t : Bool) → cond t (soundStep b r) (record { answer = 30; board = b }) .answer < 100
-    by-test true = applied-short b (unitOf b r (actionOf (r .kind))) (slotOf r (actionOf (r .kind))) (effectBy b r (actionOf (r .kind))) (effect-short b r (actionOf (r .kind)))
+    by-test true =
+        applied-short (view b) (actionOf (r .kind)) (unitOf (view b) r (actionOf (r .kind))) (slotOf r (actionOf (r .kind))) (effectBy (view b) r (actionOf (r .kind))) (effect-short (view b) r (actionOf (r .kind)))
     by-test false = omega arith

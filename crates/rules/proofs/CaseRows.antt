@@ -7,23 +7,32 @@ use native.Mathlib.Nat.{le-of-suc-le-suc, not-suc-le-zero}
 use native.Mathlib.Omega.{arith}
 use lib.ListN.{length, List·getD-eq-default}
 use lib.Dec.{eqb}
-use Rattle.rules.specs.Facts.{Fact, equal, holds, fails, Claim, Claims, Each, each, sumOf, sameList}
-use Rattle.rules.specs.Words.{isActive, isWaiting, isWork, unitAt, slotAt, blankUnit, blankSlot, ceiling}
-use Rattle.rules.specs.Sound.{pending, unitsWeight, slotsWeight, Sound, sound}
-use Rattle.rules.specs.Depths.{depthWithin, depth, deepest}
+use Rattle.rules.specs.Facts.{Fact, equal, holds, fails, Claim, Claims, Each, each, sumOf, sameList, judge}
+use Rattle.rules.specs.Words.{isActive, isWaiting, isWork, blankUnit, blankSlot, ceiling}
+use Rattle.rules.specs.Sheets.Sheet.{unitAt, slotAt}
+use Rattle.rules.specs.Sheets.Sound.{pending, unitsWeight, slotsWeight, total, workUnderWay, sound as soundSheet}
+use Rattle.rules.specs.Boards.{view}
+use Rattle.rules.specs.Sound.{Sound, sound}
+use Rattle.rules.specs.Sheets.Depths.{depthWithin, depth, deepest}
 use Rattle.rules.specs.Opening.{lowerParents, fresh, blankBoard, opening}
 use Rattle.rules.specs.Actions.{actionOf}
-use Rattle.rules.specs.Steps.{share, deliverChecks, recordRule, effect, applied, soundStep, step}
-use Rattle.rules.specs.Events.{Events, afterAll, allAnswers}
-use Rattle.rules.specs.Lists.{steps, after, answers, startBy}
-use Rattle.rules.specs.Finished.{toldFrom}
-use Rattle.rules.specs.Drains.{Quiet, Drain, waitingUnits, returnsUnderWay, drainBound}
-use Rattle.rules.specs.Cases.{Row, shares, opens, runs, attains, Attained, Right, AllRight, rows, stuckBoard, Stuck, deliver}
+use Rattle.rules.specs.Effects.{share, deliverChecks, recordChecks, recordRule}
+use Rattle.rules.specs.Sheets.Steps.{effect, applied, soundStep as sheetSoundStep}
+use Rattle.rules.specs.Steps.{soundStep, step}
+use Rattle.rules.specs.Events.{Events, afterAll, allAnswers, DrainOf}
+use Rattle.rules.specs.Lists.{steps, after, answers}
+use Rattle.rules.specs.Sheets.Lists.{startBy}
+use Rattle.rules.specs.Sheets.Finished.{toldFrom}
+use Rattle.rules.specs.Sheets.Drains.{waitingUnits, returnsUnderWay, drainBound as sheetBound}
+use Rattle.rules.specs.Drains.{Quiet, Drain, drainBound}
+use Rattle.rules.specs.Cases.{Row, shares, judges, opens, runs, attains, Attained, Right, AllRight, rows, stuckBoard, Stuck, deliver}
 use Rattle.rules.proofs.FactLaws.{true-not-false, same-is, each-claims, each-at, factBy}
 use Rattle.rules.proofs.SoundLaws.{sound-claims, below-or-not}
-use Rattle.rules.proofs.Accepted.{AcceptedAs, shown, step-sound, accepted-as}
+use Rattle.rules.proofs.Views.{step-sound}
+use Rattle.rules.proofs.Sheets.Accepted.{AcceptedAs, shown, accepted-as}
 use Rattle.rules.proofs.EventLaws.{same-after, same-answers}
-use Rattle.rules.proofs.ListLaws.{step-keeps-sound, list-keeps-sound}
+use Rattle.rules.proofs.EventSound.{answer-shown, step-keeps-sound}
+use Rattle.rules.proofs.Projection.{list-keeps-sound}
 use Rattle.rules.proofs.FinishedLaws.{verdict-sound}
 use Rattle.rules.proofs.Theorem.{opening-sound}
 use Rattle.rules.specs.declared.Action.{Action}
@@ -61,7 +70,7 @@ noStartRow i r = equal (startBy (actionOf (r .kind))) 0 ∷ []
 
 -- a list whose answers are all 0 and that has no start is a drain
 drain-of : (b : Board) (rs : List StepRecord) → Each zeroRow (answers b rs) → Each noStartRow rs → Drain b rs
-unfolding Each Drain allAnswers
+unfolding Each DrainOf allAnswers
 drain-of b [] a n = tt
 drain-of b (r ∷ rs) a n = ((a .0 .0, n .0 .0), drain-of (step b r .board) rs (a .1) (n .1))
 
@@ -116,6 +125,7 @@ tells-by false (Refused k) e = absurd (true-not-false (sym e))
 
 rowRow : Row → List Fact
 rowRow (shares w given) = equal (share w) given ∷ []
+rowRow (judges debt x y made a k) = equal (judge (λ j. j) (recordChecks debt x y made a) 0) k ∷ []
 rowRow (opens m d ps k) = equal (opening m d ps .answer) k ∷ []
 rowRow (runs m d ps rs ks v) =
     equal (opening m d ps .answer) 0
@@ -127,6 +137,7 @@ rowRow (attains m d ps rs ds) = equal (opening m d ps .answer) 0 ∷ attainedRow
 row-right : (row : Row) → Claims (rowRow row) → Right row
 unfolding rowRow
 row-right (shares w given) c = c .0
+row-right (judges debt x y made a k) c = c .0
 row-right (opens m d ps k) c = c .0
 row-right (runs m d ps rs ks v) c =
     let f : Board = opening m d ps .board in
@@ -148,7 +159,7 @@ rows-right (row ∷ rs) c = (row-right row (c .0), rows-right rs (c .1))
 
 -- one computed test over the whole table
 pub cases : AllRight rows
-unfolding rows rowRow attainedRow idleRow noWorkRow sameList tellsBy each sumOf lowerParents opening fresh blankBoard recordRule effect applied soundStep afterAll allAnswers drainBound waitingUnits returnsUnderWay deepest depth depthWithin
+unfolding rows rowRow attainedRow idleRow noWorkRow sameList tellsBy each sumOf lowerParents opening fresh blankBoard recordRule effect applied sheetSoundStep soundStep afterAll allAnswers sheetBound waitingUnits returnsUnderWay deepest depth depthWithin
 cases = rows-right rows (each-claims (λ i row. rowRow row) rows refl)
 
 -- ---- the stuck board
@@ -158,26 +169,26 @@ at-zero zero l P p n = n p
 at-zero (suc i) l P p n = not-suc-le-zero (le-of-suc-le-suc l)
 
 stuck-sound : Sound stuckBoard
-unfolding stuckBoard sound each sumOf pending unitsWeight slotsWeight
+unfolding stuckBoard sound soundSheet each sumOf pending unitsWeight slotsWeight total workUnderWay
 stuck-sound = sound-claims stuckBoard refl
 
 -- its one unit is active and suspended, its one slot a request, and the debt is at the ceiling
-stuck-refuses : (r : StepRecord) (a : Action) → AcceptedAs stuckBoard r a → ⊥
+stuck-refuses : (r : StepRecord) (a : Action) → AcceptedAs (view stuckBoard) r a → ⊥
 unfolding stuckBoard
 stuck-refuses r Unknown c = true-not-false (sym (shown 16 c))
 stuck-refuses r Start c = omega (arith, shown 37 c)
-stuck-refuses r Send c = at-zero (r .unit) (shown 13 c) (λ i. unitAt stuckBoard i .suspended ≡ false) (shown 32 c) true-not-false
-stuck-refuses r RequestStep c = at-zero (r .unit) (shown 13 c) (λ i. unitAt stuckBoard i .suspended ≡ false) (shown 32 c) true-not-false
-stuck-refuses r Deliver c = at-zero (r .slot) (shown 14 c) (λ i. Claim (factBy 36 (deliverChecks ceiling (slotAt stuckBoard i)))) (shown 36 c) (λ q. omega (arith, q))
-stuck-refuses r Rest c = at-zero (r .unit) (shown 13 c) (λ i. unitAt stuckBoard i .suspended ≡ false) (shown 32 c) true-not-false
-stuck-refuses r Tick c = at-zero (r .unit) (shown 13 c) (λ i. isWaiting (unitAt stuckBoard i .state) ≡ true) (shown 38 c) (λ e. true-not-false (sym e))
-stuck-refuses r Release c = at-zero (r .unit) (shown 13 c) (λ i. isWaiting (unitAt stuckBoard i .state) ≡ true) (shown 38 c) (λ e. true-not-false (sym e))
+stuck-refuses r Send c = at-zero (r .unit) (shown 13 c) (λ i. unitAt (view stuckBoard) i .suspended ≡ false) (shown 32 c) true-not-false
+stuck-refuses r RequestStep c = at-zero (r .unit) (shown 13 c) (λ i. unitAt (view stuckBoard) i .suspended ≡ false) (shown 32 c) true-not-false
+stuck-refuses r Deliver c = at-zero (r .slot) (shown 14 c) (λ i. Claim (factBy 36 (deliverChecks ceiling (slotAt (view stuckBoard) i)))) (shown 36 c) (λ q. omega (arith, q))
+stuck-refuses r Rest c = at-zero (r .unit) (shown 13 c) (λ i. unitAt (view stuckBoard) i .suspended ≡ false) (shown 32 c) true-not-false
+stuck-refuses r Tick c = at-zero (r .unit) (shown 13 c) (λ i. isWaiting (unitAt (view stuckBoard) i .state) ≡ true) (shown 38 c) (λ e. true-not-false (sym e))
+stuck-refuses r Release c = at-zero (r .unit) (shown 13 c) (λ i. isWaiting (unitAt (view stuckBoard) i .state) ≡ true) (shown 38 c) (λ e. true-not-false (sym e))
 
 pub stuck : Stuck stuckBoard
-unfolding stuckBoard recordRule effect applied soundStep
+unfolding stuckBoard recordRule effect applied sheetSoundStep soundStep
 stuck = record {
   is-sound = stuck-sound;
   not-finished = verdict-sound stuckBoard stuck-sound;
-  refused = λ r e. stuck-refuses r (actionOf (r .kind)) (accepted-as stuckBoard r stuck-sound (actionOf (r .kind)) refl e);
+  refused = λ r e. stuck-refuses r (actionOf (r .kind)) (accepted-as (view stuckBoard) r (stuck-sound .sheet) (actionOf (r .kind)) refl (sym (answer-shown stuckBoard r stuck-sound) ∙ e));
   grant-refused = ap (λ (o : Outcome). o .answer) (step-sound stuckBoard (deliver 0) stuck-sound);
 }

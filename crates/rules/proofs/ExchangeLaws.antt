@@ -8,15 +8,20 @@ use native.Mathlib.Omega.{arith}
 use lib.Dec.{eqb}
 use borrow.Author.Tests.{eq-eqb, leb-true, leb-false, not-true}
 use Rattle.rules.specs.Facts.{Fact, test, Check, check, judge}
-use Rattle.rules.specs.Words.{unitAt}
 use Rattle.rules.specs.Sound.{sound}
 use Rattle.rules.specs.Actions.{actionOf}
 use Rattle.rules.specs.Letters.{slotOf}
-use Rattle.rules.specs.Steps.{unitOf, placesOn, checksOn, doneOn, recordRule, effectBy, effect, applied, soundStep, step}
+use Rattle.rules.specs.Effects.{recordRule}
+use Rattle.rules.specs.Sheets.Sheet.{Sheet, unitAt, slotAt, Outcome as SheetOutcome}
+use Rattle.rules.specs.Sheets.Steps.{unitOf, madeAt, placesOn, checksOn, doneOn, effectBy, effect, applied, soundStep as sheetSoundStep}
+use Rattle.rules.specs.Boards.{view, boardOf}
+use Rattle.rules.specs.Steps.{onBoard, soundStep, step}
 use Rattle.rules.specs.Exchanges.{exchanged, bothFail, numberAt, Exchanged, RowsExchanged, bracket, stepUnder, placeBy, sendAsBefore, AnswersNow, becomes33, stays, SendsReordered}
 use Rattle.rules.proofs.FactLaws.{and-left, and-right, true-not-false, factBy}
-use Rattle.rules.proofs.JudgeLaws.{numberOf, judge-map, judge-append}
-use Rattle.rules.proofs.Changes.{judged-applied}
+use Rattle.rules.proofs.JudgeLaws.{Numbered, numberOf, judge-map, judge-append, numbered-append, judge-refused}
+use Rattle.rules.proofs.Views.{rounds-stay}
+use Rattle.rules.proofs.Sheets.Accepted.{place-numbered, record-numbered}
+use Rattle.rules.proofs.Sheets.Changes.{judged-applied}
 use Rattle.rules.specs.declared.Action.{Action}
 use Rattle.rules.specs.declared.Action.the-variants.{Send}
 use Rattle.rules.specs.declared.Effect.the-variants.{Refused}
@@ -95,20 +100,40 @@ before-holds j k (check f n ∷ cs) e l = by-tests (eqb n k) (eqb n j) (test f) 
 abbrev refusedOn : Board → ℕ → Outcome
 refusedOn b k = record { answer = k; board = b }
 
+abbrev sheetDoes : Sheet → StepRecord → Action → SheetOutcome
+sheetDoes b r a = applied b a (unitOf b r a) (slotOf r a) (doneOn b r a)
+
 abbrev does : Board → StepRecord → Action → Outcome
-does b r a = applied b (unitOf b r a) (slotOf r a) (doneOn b r a)
+does b r a = onBoard (b .rounds) a (sheetDoes (view b) r a)
+
+-- the bracket without 30
+abbrev rowOn : Sheet → StepRecord → Action → List Check
+rowOn b r a = placesOn b r a ++ checksOn b r a
+
+-- of its sheet
+sheet-bracket : (b : Sheet) (r : StepRecord) (a : Action) → actionOf (r .kind) ≡ a → sheetSoundStep b r ≡ judge (λ k. record { answer = k; sheet = b }) (rowOn b r a) (sheetDoes b r a)
+unfolding sheetSoundStep effect recordRule
+sheet-bracket b r a named =
+    ap (λ (c : Action). applied b c (unitOf b r c) (slotOf r c) (effectBy b r c)) named
+    ∙ ap (applied b a (unitOf b r a) (slotOf r a)) (sym (judge-append Refused (placesOn b r a) (checksOn b r a) (doneOn b r a)))
+    ∙ judged-applied b a (unitOf b r a) (slotOf r a) (rowOn b r a) (doneOn b r a)
+
+bracket-numbered : (b : Sheet) (r : StepRecord) (a : Action) → Numbered (rowOn b r a)
+bracket-numbered b r a =
+    numbered-append (placesOn b r a) (checksOn b r a) (place-numbered (b .n) (b .m) r a) (record-numbered (b .debt) (unitAt b (unitOf b r a)) (slotAt b (slotOf r a)) (madeAt b (unitOf b r a)) a)
 
 step-bracket : (b : Board) (r : StepRecord) (a : Action) → actionOf (r .kind) ≡ a → step b r ≡ stepUnder (bracket b r a) b r a
-unfolding step soundStep effect recordRule
-step-bracket b r a named = ap (λ (o : Outcome). cond (sound b) o (refusedOn b 30)) (by-action ∙ by-rows)
+unfolding step soundStep
+step-bracket b r a named = ap (λ (o : Outcome). cond (sound b) o (refusedOn b 30)) (by-sheet ∙ refusals)
   where
-    by-action : soundStep b r ≡ applied b (unitOf b r a) (slotOf r a) (effectBy b r a)
-    by-action = ap (λ (c : Action). applied b (unitOf b r c) (slotOf r c) (effectBy b r c)) named
+    by-sheet : soundStep b r ≡ judge (λ k. onBoard (b .rounds) a (record { answer = k; sheet = view b })) (rowOn (view b) r a) (does b r a)
+    by-sheet =
+        ap (λ (c : Action). onBoard (b .rounds) c (sheetSoundStep (view b) r)) named ∙ ap (onBoard (b .rounds) a) (sheet-bracket (view b) r a named)
+        ∙ judge-map (onBoard (b .rounds) a) (λ k. record { answer = k; sheet = view b }) (rowOn (view b) r a) (sheetDoes (view b) r a)
 
-    by-rows : applied b (unitOf b r a) (slotOf r a) (effectBy b r a) ≡ judge (refusedOn b) (placesOn b r a ++ checksOn b r a) (does b r a)
-    by-rows =
-        ap (applied b (unitOf b r a) (slotOf r a)) (sym (judge-append Refused (placesOn b r a) (checksOn b r a) (doneOn b r a)))
-        ∙ judged-applied b (unitOf b r a) (slotOf r a) (placesOn b r a ++ checksOn b r a) (doneOn b r a)
+    -- a refusal keeps the rounds
+    refusals : judge (λ k. onBoard (b .rounds) a (record { answer = k; sheet = view b })) (rowOn (view b) r a) (does b r a) ≡ judge (refusedOn b) (rowOn (view b) r a) (does b r a)
+    refusals = judge-refused _ (refusedOn b) (rowOn (view b) r a) (does b r a) (bracket-numbered (view b) r a) (λ k l i. record { answer = k; board = boardOf (view b) (rounds-stay k a (b .rounds) (λ e. omega (arith, l, e)) i) })
 
 -- ---- a send
 module _ (b : Board) (r : StepRecord) (named : actionOf (r .kind) ≡ Send) where
@@ -116,7 +141,7 @@ module _ (b : Board) (r : StepRecord) (named : actionOf (r .kind) ≡ Send) wher
   cs = bracket b r Send
 
   abbrev weight : ℕ
-  weight = unitAt b (r .unit) .weight
+  weight = unitAt (view b) (r .unit) .weight
 
   abbrev exchange : Exchanged (refusedOn b) cs (does b r Send) (placeBy 33 cs)
   exchange = rows-exchanged Outcome (refusedOn b) cs (does b r Send) (placeBy 33 cs)

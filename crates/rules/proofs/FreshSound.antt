@@ -7,17 +7,21 @@ use native.Mathlib.Nat.{le-of-suc-le-suc}
 use native.Mathlib.Omega.{arith}
 use lib.ListN.{length, getD, replicate, length-append, length-replicate, getD-replicate, List·getD-append}
 use lib.Seq.{getD-append-add}
-use Rattle.rules.specs.Facts.{Claims, Each, below}
-use Rattle.rules.specs.Words.{blankUnit, blankSlot}
-use Rattle.rules.specs.Sound.{parentRow, pendingRow, pendingIn, pending, unitsWeight, slotsWeight, Sound, sound, slotRowOn, unitRowOn}
+use Rattle.rules.specs.Facts.{Claims, Each, below, oneIf}
+use Rattle.rules.specs.Words.{isWork, blankUnit, blankSlot}
+use Rattle.rules.specs.Sheets.Sheet.{Sheet}
+use Rattle.rules.specs.Sheets.Sound.{parentRow, pendingRow, pendingIn, pending, unitsWeight, slotsWeight, createdRow, processedRow, total, workUnderWay, Sound as SoundSheet, sound as soundSheet, slotRowOn, unitRowOn}
+use Rattle.rules.specs.Boards.{view, seenOf}
+use Rattle.rules.specs.Sound.{Sound, sound}
+use Rattle.rules.specs.Rounds.{noRound}
 use Rattle.rules.specs.Opening.{lowerParents, openingChecks, fresh, blankBoard, refusedBy, opening}
 use Rattle.rules.proofs.FactLaws.{asked, each-claims, each-at, each-of, judge-passed}
 use Rattle.rules.proofs.SumLaws.{sum-none}
-use Rattle.rules.proofs.SoundLaws.{row-of}
+use Rattle.rules.proofs.Sheets.SoundLaws.{row-of}
+use Rattle.rules.proofs.RoundSound.{none-sound}
 use Rattle.rules.proofs.JudgeLaws.{Judged, passed, failed, judged}
 use Rattle.rules.specs.declared.UnitRecord.{UnitRecord}
 use Rattle.rules.specs.declared.Slot.{Slot}
-use Rattle.rules.specs.declared.Board.{Board}
 use Rattle.rules.specs.declared.Outcome.{Outcome}
 
 abbrev opened : ℕ → ℕ → List ℕ → Outcome
@@ -36,13 +40,18 @@ pub opening-fresh : (m d : ℕ) (ps : List ℕ) → Claims (asked (openingChecks
 unfolding opening
 opening-fresh m d ps c = judge-passed refusedBy (openingChecks m d ps) (opened m d ps) c
 
+-- no round is open on it
+pub opening-rounds : (m d : ℕ) (ps : List ℕ) → opening m d ps .answer ≡ 0 → opening m d ps .board .rounds ≡ noRound
+unfolding fresh
+opening-rounds m d ps e = ap (λ (o : Outcome). o .board .rounds) (opening-fresh m d ps (opening-passed m d ps e))
+
 -- what holds of the blank record holds of every entry of a list of them
 blank-at : {A : Type 0} (n i : ℕ) (a : A) (P : A → Type 0) → i < length (replicate n a) → P a → P (getD (replicate n a) i a)
 blank-at n i a P l p = subst P (sym (getD-replicate n i a a (subst (λ (k : ℕ). i < k) (length-replicate n a) l))) p
 
 module _ (m d : ℕ) (ps : List ℕ) (c : Claims (asked (openingChecks m d ps))) where
-  abbrev b : Board
-  b = fresh m d ps
+  abbrev b : Sheet
+  b = view (fresh m d ps)
 
   rest-length : length (ps ++ replicate (63 - length ps) 0) ≡ 63
   rest-length = omega (arith, length-append ps (replicate (63 - length ps) 0), length-replicate {A = ℕ} (63 - length ps) 0, c)
@@ -65,10 +74,10 @@ module _ (m d : ℕ) (ps : List ℕ) (c : Claims (asked (openingChecks m d ps)))
           row-of (suc k) (suc (length ps)) _ _ (λ p. (rw (List·getD-append ps (replicate (63 - length ps) 0) 0 k (le-of-suc-le-suc p)) (used k (le-of-suc-le-suc p)), tt))
           (λ p. (past k (le-of-suc-le-suc p) (omega (arith, l, rest-length)), tt))
 
-  pub fresh-sound : Sound b
-  unfolding fresh pending unitsWeight slotsWeight
-  fresh-sound = record {
-    s1-sizes = omega (arith, rest-length, length-replicate 64 blankUnit, length-replicate 256 blankSlot, c);
+  sheet-sound : SoundSheet b
+  unfolding fresh pending unitsWeight slotsWeight total workUnderWay
+  sheet-sound = record {
+    s1-sizes = omega (arith, rest-length, length-replicate 64 blankUnit, length-replicate 256 blankSlot, length-replicate {A = ℕ} 64 0, c);
     s1-parents = parents-rows;
     s2-units = each-of (unitRowOn b) (b .units) blankUnit
         (λ i l. blank-at 64 i blankUnit (λ (u : UnitRecord). Claims (unitRowOn b i u)) l (row-of i (b .n) _ _ (λ p. (refl, (refl, (refl, tt)))) (λ p. (refl, (refl, (refl, (refl, tt)))))));
@@ -82,9 +91,25 @@ module _ (m d : ℕ) (ps : List ℕ) (c : Claims (asked (openingChecks m d ps)))
       sum-none (λ i u. u .weight) (b .units) blankUnit (λ i l. blank-at 64 i blankUnit (λ (u : UnitRecord). u .weight ≡ 0) l refl),
       sum-none (λ j y. y .weight) (b .slots) blankSlot (λ j l. blank-at 256 j blankSlot (λ (y : Slot). y .weight ≡ 0) l refl),
     );
+    counts-created = each-of (createdRow (b .n)) (b .created) 0 (λ i l. blank-at 64 i 0 (λ (k : ℕ). Claims (createdRow (b .n) i k)) l (row-of i (b .n) _ _ (λ p. (omega arith, tt)) (λ p. (refl, tt))));
+    counts-processed = each-of (processedRow (b .n)) (b .processed) 0 (λ i l. blank-at 64 i 0 (λ (k : ℕ). Claims (processedRow (b .n) i k)) l (row-of i (b .n) _ _ (λ p. tt) (λ p. (refl, tt))));
+    counts-balance = (
+      omega (
+        arith,
+        sum-none (λ i k. k) (b .created) 0 (λ i l. blank-at 64 i 0 (λ (k : ℕ). k ≡ 0) l refl),
+        sum-none (λ i k. k) (b .processed) 0 (λ i l. blank-at 64 i 0 (λ (k : ℕ). k ≡ 0) l refl),
+        sum-none (λ j y. oneIf (isWork (y .kind))) (b .slots) blankSlot (λ j l. blank-at 256 j blankSlot (λ (y : Slot). oneIf (isWork (y .kind)) ≡ 0) l refl),
+      ),
+      tt,
+    );
   }
+
+  -- no round is open
+  pub fresh-sound : Sound (fresh m d ps)
+  unfolding fresh
+  fresh-sound = record { sheet = sheet-sound; rounds = none-sound (seenOf b) }
 
 -- having no unit
 pub blank-unsound : sound blankBoard ≡ false
-unfolding blankBoard sound
+unfolding blankBoard sound soundSheet
 blank-unsound = refl

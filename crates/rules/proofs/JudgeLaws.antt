@@ -6,7 +6,7 @@ use Prim.Native.Nat.{ℕ, _≤_, _<_}
 use native.Mathlib.Omega.{arith}
 use lib.Dec.{eqb}
 use borrow.Author.Tests.{ne-eqb}
-use Rattle.rules.specs.Facts.{test, Claims, Check, check, judge}
+use Rattle.rules.specs.Facts.{test, holds, Claims, Check, check, judge}
 use Rattle.rules.proofs.FactLaws.{claimed, asked}
 
 -- ---- a judgement either passed every check or is a refusal by a number, which is above 0 and has at most two digits
@@ -53,6 +53,11 @@ number-claims cs n e = by-judgement (judged (λ k. k) cs 0 n)
     by-judgement (passed c) = c
     by-judgement (failed k l q) = absurd (omega (arith, l, sym q ∙ e))
 
+-- an answer of 0 passed the first check, whose refusal is none: so a step that asks for soundness first tells that it was there
+pub first-passed : {A : Type 0} (answer : A → ℕ) (refused : ℕ → A) (t : Bool) (k : ℕ) (result : A) → (answer (refused k) ≡ 0 → ⊥) → answer (judge refused (check (holds t) k ∷ []) result) ≡ 0 → t ≡ true
+first-passed answer refused true k result n e = refl
+first-passed answer refused false k result n e = absurd (n e)
+
 -- ---- a judgement under a function, and two by the same checks
 cond-map : {A B : Type 0} (f : A → B) (t : Bool) (x y : A) → f (cond t x y) ≡ cond t (f x) (f y)
 cond-map f true x y = refl
@@ -78,3 +83,12 @@ judge-same refused (check g k ∷ cs) x y h =
 pub judge-append : {A : Type 0} (refused : ℕ → A) (cs ds : List Check) (result : A) → judge refused (cs ++ ds) result ≡ judge refused cs (judge refused ds result)
 judge-append refused [] ds result = refl
 judge-append refused (check g k ∷ cs) ds result = ap (λ (x : _). cond (test g) x (refused k)) (judge-append refused cs ds result)
+
+pub numbered-append : (cs ds : List Check) → Numbered cs → Numbered ds → Numbered (cs ++ ds)
+numbered-append [] ds p q = q
+numbered-append (check f k ∷ cs) ds p q = (p .0, numbered-append cs ds (p .1) q)
+
+-- two ways to refuse that agree on the numbers of refusals
+pub judge-refused : {A : Type 0} (refused declined : ℕ → A) (cs : List Check) (result : A) → Numbered cs → ((k : ℕ) → Number k → refused k ≡ declined k) → judge refused cs result ≡ judge declined cs result
+judge-refused refused declined [] result n h = refl
+judge-refused refused declined (check f k ∷ cs) result n h = λ i. cond (test f) (judge-refused refused declined cs result (n .1) h i) (h k (n .0) i)

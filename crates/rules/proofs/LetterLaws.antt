@@ -10,7 +10,11 @@ use Rattle.rules.specs.Sound.{sound}
 use Rattle.rules.specs.Actions.{actionOf}
 use Rattle.rules.specs.Letters.{Field, unitField, otherField, slotField, Letter, letters, read, put, valuesOf, recordFrom, usedFields, used, slotOf}
 use Rattle.rules.specs.Guarantee.{Fits16}
-use Rattle.rules.specs.Steps.{unitOf, recordRule, effectBy, effect, applied, soundStep, step}
+use Rattle.rules.specs.Effects.{recordRule}
+use Rattle.rules.specs.Sheets.Sheet.{Sheet, Outcome as SheetOutcome}
+use Rattle.rules.specs.Sheets.Steps.{unitOf, effectBy, effect, applied, soundStep as sheetSoundStep}
+use Rattle.rules.specs.Boards.{view}
+use Rattle.rules.specs.Steps.{onBoard, soundStep, step}
 use Rattle.rules.specs.declared.Action.{Action}
 use Rattle.rules.specs.declared.Action.the-variants.{Unknown, Start, Send, Request, Deliver, Rest, Tick, Release}
 use Rattle.rules.specs.declared.Board.{Board}
@@ -18,10 +22,10 @@ use Rattle.rules.specs.declared.StepRecord.{StepRecord}
 use Rattle.rules.specs.declared.Outcome.{Outcome}
 
 -- the step by the action, whatever the record's kind
-abbrev stepBy : Board → StepRecord → Action → Outcome
-stepBy b r a = applied b (unitOf b r a) (slotOf r a) (effectBy b r a)
+abbrev stepBy : Sheet → StepRecord → Action → SheetOutcome
+stepBy b r a = applied b a (unitOf b r a) (slotOf r a) (effectBy b r a)
 
-by-action : (b : Board) (r : StepRecord) (a : Action) → stepBy b r a ≡ stepBy b (usedFields r a) a
+by-action : (b : Sheet) (r : StepRecord) (a : Action) → stepBy b r a ≡ stepBy b (usedFields r a) a
 unfolding recordRule
 by-action b r Unknown = refl
 by-action b r Start = refl
@@ -44,9 +48,15 @@ record-kind k i (l ∷ ls) xs = put-kind (recordFrom k (suc i) ls xs) (l .field)
 kind-used : (r : StepRecord) (a : Action) → usedFields r a .kind ≡ r .kind
 kind-used r a = record-kind (r .kind) 0 (letters a) (valuesOf r (letters a))
 
+sheet-step-used : (b : Sheet) (r : StepRecord) → sheetSoundStep b r ≡ sheetSoundStep b (used r)
+unfolding sheetSoundStep effect used
+sheet-step-used b r = by-action b r (actionOf (r .kind)) ∙ ap (λ (k : ℕ). stepBy b (used r) (actionOf k)) (sym (kind-used r (actionOf (r .kind))))
+
 pub sound-step-used : (b : Board) (r : StepRecord) → soundStep b r ≡ soundStep b (used r)
-unfolding soundStep effect used
-sound-step-used b r = by-action b r (actionOf (r .kind)) ∙ ap (λ (k : ℕ). stepBy b (used r) (actionOf k)) (sym (kind-used r (actionOf (r .kind))))
+unfolding soundStep used
+sound-step-used b r =
+    ap (λ (o : SheetOutcome). onBoard (b .rounds) (actionOf (r .kind)) o) (sheet-step-used (view b) r)
+    ∙ ap (λ (k : ℕ). onBoard (b .rounds) (actionOf k) (sheetSoundStep (view b) (used r))) (sym (kind-used r (actionOf (r .kind))))
 
 pub step-used : (b : Board) (r : StepRecord) → step b r ≡ step b (used r)
 unfolding step

@@ -1,4 +1,4 @@
--- The guarantee holds, for every accepted opening and every list of steps. On a finished board all was taken back, and every step but a start is refused.
+-- The guarantee holds, for every accepted opening and every list of steps, beginnings and visits. On a finished board all was taken back, and every step but a start is refused.
 use mathlib.Core.Path.{_≡_, refl, sym, ap, subst, _∙_}
 use mathlib.Core.List.{List, [], _∷_, _++_}
 use Prim.Native.Nat.{ℕ, _+_, _*_}
@@ -6,24 +6,35 @@ use native.Mathlib.Nat.{zero-mul}
 use native.Mathlib.Omega.{arith}
 use Rattle.rules.specs.Facts.{sumOf, oneIf}
 use Rattle.rules.specs.Words.{isActive, isWaiting, isWork, isReturn, blankUnit, blankSlot}
+use Rattle.rules.specs.Events.{Events, afterAll, DrainOf}
+use Rattle.rules.specs.Sheets.Sheet.{Sheet}
+use Rattle.rules.specs.Sheets.Depths.{greatestDepth}
+use Rattle.rules.specs.Sheets.Lists.{startCount, grantCount, takenCount}
+use Rattle.rules.specs.Sheets.Finished.{Complete}
+use Rattle.rules.specs.Sheets.Drains.{Quiet, waitingUnits, returnsUnderWay, drainBound}
+use Rattle.rules.specs.Boards.{view}
 use Rattle.rules.specs.Sound.{Sound}
-use Rattle.rules.specs.Depths.{greatestDepth}
 use Rattle.rules.specs.Opening.{fresh, opening}
-use Rattle.rules.specs.Events.{Events, afterAll}
-use Rattle.rules.specs.Lists.{steps, after}
-use Rattle.rules.specs.Finished.{Complete}
-use Rattle.rules.specs.Drains.{Quiet, Drain, waitingUnits, returnsUnderWay, drainBound}
-use Rattle.rules.specs.Guarantee.{History, GuaranteedOf, GuaranteeOf, CarriesOf, stepHistory, Guarantee, Carries, FinishedAllBack, FinishedRefuses}
+use Rattle.rules.specs.Steps.{step}
+use Rattle.rules.specs.Lists.{after, Event, events, taking}
+use Rattle.rules.specs.Finished.{verdict}
+use Rattle.rules.specs.Guarantee.{boards, History, GuaranteedOf, GuaranteeOf, CarriesOf, eventHistory, Guaranteed, Guarantee, Carries, FinishedAllBack, FinishedRefuses, AcceptedChanges, ReturnsCountLess}
 use Rattle.rules.proofs.SumLaws.{sum-none}
+use Rattle.rules.proofs.EventLaws.{after-append, list-keeps}
 use Rattle.rules.proofs.FreshSound.{opening-passed, opening-fresh, fresh-sound}
-use Rattle.rules.proofs.EventLaws.{after-append}
-use Rattle.rules.proofs.ListLaws.{list-keeps-sound, debt-account}
-use Rattle.rules.proofs.FinishedLaws.{finished-debt, finished-complete}
-use Rattle.rules.proofs.DrainLaws.{quiet-drains}
+use Rattle.rules.proofs.Views.{accepted-sound}
+use Rattle.rules.proofs.EventSound.{answer-shown, event-keeps-sound}
+use Rattle.rules.proofs.FinishedLaws.{verdict-shown, finished-complete}
+use Rattle.rules.proofs.Projection.{step-view, stepsOf, shown-after, shown-tally, drain-shown, drains-shown}
+use Rattle.rules.proofs.Sheets.AcceptedChanges as changing
+use Rattle.rules.proofs.Sheets.FinishedLaws.{finished-debt}
+use Rattle.rules.proofs.Sheets.DrainLaws as draining
+use Rattle.rules.proofs.Sheets.Theorem.{sheet-guarantee}
 use Rattle.rules.specs.declared.State.{State}
 use Rattle.rules.specs.declared.Kind.{Kind}
 use Rattle.rules.specs.declared.Board.{Board}
 use Rattle.rules.specs.declared.StepRecord.{StepRecord}
+use Rattle.rules.specs.declared.Verdict.the-variants.{Finished}
 use Rattle.rules.specs.declared.Outcome.{Outcome}
 
 -- the board of an accepted opening is sound and has nothing out
@@ -35,40 +46,65 @@ opening-sound m d ps e =
 
 pub guarantee : Guarantee
 unfolding GuaranteeOf
-guarantee m d ps rs e =
+guarantee m d ps es e =
     let f : Board = opening m d ps .board in
     let start = opening-sound m d ps e in
-    let h : Sound (after f rs) = list-keeps-sound f rs (start .0) in
+    let h : Sound (afterAll events f es) = list-keeps events Sound event-keeps-sound f es (start .0) in
+    let shown = shown-after f es (start .0) in
+    let g = sheet-guarantee (view f) (start .0 .sheet) (start .1) (stepsOf es) in
     record {
       is-sound = h;
-      conserved = h .s5-s6-debt .0;
-      accounted = debt-account f rs (start .0) ∙ omega (arith, start .1);
-      finished = finished-complete (after f rs) h;
-      drains = quiet-drains (after f rs) h;
+      conserved = h .sheet .s5-s6-debt .0;
+      accounted = omega (
+        arith,
+        g .accounted,
+        ap (λ (c : Sheet). c .debt) shown,
+        shown-tally takenCount f es (start .0),
+        shown-tally startCount f es (start .0),
+        shown-tally grantCount f es (start .0),
+      );
+      finished = finished-complete (afterAll events f es) h;
+      drains = λ q. drains-shown (afterAll events f es) h (draining.quiet-drains (view (afterAll events f es)) (h .sheet) q);
     }
 
 -- ---- the guarantee as calls carry it
-pub events-carry : {E : Type 0} (ev : Events Board E) (h : History E) → GuaranteeOf ev h → (b : Board) (es : List E) → CarriesOf ev h b es (afterAll ev b es)
+pub events-carry : {E : Type 0} (ev : Events Board E) (h : History Board E) → GuaranteeOf ev h → (b : Board) (es : List E) → CarriesOf ev h b es (afterAll ev b es)
 unfolding GuaranteeOf
 events-carry ev h g b es m d ps qs e q =
     let f : Board = opening m d ps .board in
-    subst (λ (c : Board). GuaranteedOf ev h f (qs ++ es) c) (after-append ev f qs es ∙ ap (λ (x : Board). afterAll ev x es) (sym q)) (g m d ps (qs ++ es) e)
+    subst (λ (c : Board). GuaranteedOf boards ev h f (qs ++ es) c) (after-append ev f qs es ∙ ap (λ (x : Board). afterAll ev x es) (sym q)) (g m d ps (qs ++ es) e)
 
-pub carries : (b : Board) (rs : List StepRecord) → Carries b rs (after b rs)
-carries = events-carry steps stepHistory guarantee
+pub carries : (b : Board) (es : List Event) → Carries b es (afterAll events b es)
+carries = events-carry events eventHistory guarantee
+
+-- steps alone are events
+taking-after : (b : Board) (rs : List StepRecord) → afterAll events b (taking rs) ≡ after b rs
+unfolding afterAll taking
+taking-after b [] = refl
+taking-after b (r ∷ rs) = taking-after (step b r .board) rs
+
+pub steps-guaranteed : (m d : ℕ) (ps : List ℕ) (rs : List StepRecord) → opening m d ps .answer ≡ 0 → Guaranteed (opening m d ps .board) (taking rs) (after (opening m d ps .board) rs)
+unfolding GuaranteeOf
+steps-guaranteed m d ps rs e = subst (λ (c : Board). Guaranteed (opening m d ps .board) (taking rs) c) (taking-after (opening m d ps .board) rs) (guarantee m d ps (taking rs) e)
+
+pub steps-carry : (b : Board) (rs : List StepRecord) → Carries b (taking rs) (after b rs)
+steps-carry b rs = subst (λ (c : Board). Carries b (taking rs) c) (taking-after b rs) (carries b (taking rs))
 
 -- ---- a finished board owes nothing, so what came in was taken back
+finished-owes : (b : Board) → Sound b → verdict b ≡ Finished → b .debt ≡ 0
+finished-owes b h q = finished-debt (view b) (h .sheet) (sym (verdict-shown b h) ∙ q)
+
 pub finished-all-back : FinishedAllBack
 unfolding GuaranteeOf FinishedAllBack
-finished-all-back m d ps rs e f =
-    let g = guarantee m d ps rs e in
-    omega (arith, g .accounted, finished-debt (after (opening m d ps .board) rs) (g .is-sound) f)
+finished-all-back m d ps es e f =
+    let g = guarantee m d ps es e in
+    omega (arith, g .accounted, finished-owes (afterAll events (opening m d ps .board) es) (g .is-sound) f)
 
 -- ---- a finished board is quiet and its bound on drains is 0, so no step but a start is accepted
-complete-quiet : (b : Board) → Complete b → Quiet b
+complete-quiet : (b : Sheet) → Complete b → Quiet b
 complete-quiet b c = record { none-active = λ i. ap isActive (c .idle i); no-work = λ j. ap isWork (c .empty j) }
 
-complete-bound : (b : Board) → Complete b → drainBound b ≡ 0
+complete-bound : (b : Sheet) → Complete b → drainBound b ≡ 0
 unfolding drainBound waitingUnits returnsUnderWay
 complete-bound b c = ap (λ (k : ℕ). k * ((b .delay + 2) * greatestDepth b)) none ∙ zero-mul _
   where
@@ -80,9 +116,20 @@ complete-bound b c = ap (λ (k : ℕ). k * ((b .delay + 2) * greatestDepth b)) n
     )
 
 pub finished-refuses : FinishedRefuses
-unfolding GuaranteeOf FinishedRefuses Drain
-finished-refuses m d ps rs r e f n z =
-    let b : Board = after (opening m d ps .board) rs in
-    let g = guarantee m d ps rs e in
-    let c : Complete b = g .finished .0 f in
-    omega (arith, g .drains (complete-quiet b c) .bounded (r ∷ []) ((z, n), tt), complete-bound b c)
+unfolding GuaranteeOf FinishedRefuses DrainOf
+finished-refuses m d ps es r e f n z =
+    let b : Board = afterAll events (opening m d ps .board) es in
+    let g = guarantee m d ps es e in
+    let c : Complete (view b) = g .finished .0 f in
+    omega (arith, g .drains (complete-quiet (view b) c) .bounded (r ∷ []) ((z, n), tt), complete-bound (view b) c)
+
+-- ---- what holds of a sheet's steps and drains holds of a board's
+pub accepted-changes : AcceptedChanges
+unfolding AcceptedChanges
+accepted-changes b r z e =
+    let h : Sound b = accepted-sound b r z in
+    changing.accepted-changes (view b) r (sym (answer-shown b r h) ∙ z) (sym (step-view b r h) ∙ ap view e)
+
+pub returns-count-less : ReturnsCountLess
+unfolding ReturnsCountLess
+returns-count-less b h q rs z = draining.returns-count-less (view b) (h .sheet) q rs (drain-shown b rs h z)

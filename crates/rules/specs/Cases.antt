@@ -1,18 +1,27 @@
 -- Worked cases of the definitions: rows of one table, and a board that is stuck.
 use mathlib.Core.Path.{_≡_}
-use mathlib.Core.Bool.{true}
+use mathlib.Core.Bool.{true, false}
 use mathlib.Core.List.{List, [], _∷_}
 use Prim.Native.Nat.{ℕ}
 use lib.ListN.{length, replicate}
+use Rattle.rules.specs.Facts.{judge}
 use Rattle.rules.specs.Words.{blankUnit, blankSlot, ceiling}
 use Rattle.rules.specs.Sound.{Sound}
 use Rattle.rules.specs.Opening.{idleBoard, opening}
-use Rattle.rules.specs.Steps.{share, message, changed, step}
+use Rattle.rules.specs.Effects.{share, message, recordChecks}
+use Rattle.rules.specs.Sheets.Steps.{changed}
+use Rattle.rules.specs.Rounds.{noRound}
+use Rattle.rules.specs.Boards.{view, boardOf}
+use Rattle.rules.specs.Steps.{step}
 use Rattle.rules.specs.Lists.{after, answers}
 use Rattle.rules.specs.Finished.{verdict}
 use Rattle.rules.specs.Drains.{Quiet, Drain, drainBound}
 use Rattle.rules.specs.declared.State.the-variants.{Active}
-use Rattle.rules.specs.declared.Kind.the-variants.{Request}
+use Rattle.rules.specs.declared.Kind.the-variants.{Work, Request}
+use Rattle.rules.specs.declared.Action.{Action}
+use Rattle.rules.specs.declared.Action.the-variants.{Start, Send}
+use Rattle.rules.specs.declared.UnitRecord.{UnitRecord}
+use Rattle.rules.specs.declared.Slot.{Slot}
 use Rattle.rules.specs.declared.Board.{Board}
 use Rattle.rules.specs.declared.StepRecord.{StepRecord}
 use Rattle.rules.specs.declared.Verdict.{Verdict}
@@ -43,10 +52,11 @@ tick u = asks 6 u 0 0
 abbrev pub release : ℕ → ℕ → StepRecord
 release u s = asks 7 u 0 s
 
--- ---- a row: a share, an opening's answer, or an accepted opening and a list of steps with their answers and the verdict after
+-- ---- a row: a share, the number by which a step is refused on its records (0 for none), an opening's answer, or an accepted opening and a list of steps with their answers and the verdict after
 -- them, or with a drain after them that attains its bound
 pub data Row : Type 0 where
   shares : ℕ → ℕ → Row
+  judges : ℕ → UnitRecord → Slot → ℕ → Action → ℕ → Row
   opens : ℕ → ℕ → List ℕ → ℕ → Row
   runs : ℕ → ℕ → List ℕ → List StepRecord → List ℕ → Verdict → Row
   attains : ℕ → ℕ → List ℕ → List StepRecord → List StepRecord → Row
@@ -59,6 +69,7 @@ pub record Attained (b : Board) (rs : List StepRecord) : Type 0 where
 
 abbrev pub Right : Row → Type 0
 Right (shares w given) = share w ≡ given
+Right (judges debt x y made a k) = judge (λ j. j) (recordChecks debt x y made a) 0 ≡ k
 Right (opens m d ps k) = opening m d ps .answer ≡ k
 Right (runs m d ps rs ks v) = (opening m d ps .answer ≡ 0) × (answers (opening m d ps .board) rs ≡ ks) × (verdict (after (opening m d ps .board) rs) ≡ v)
 Right (attains m d ps rs ds) = (opening m d ps .answer ≡ 0) × (Attained (after (opening m d ps .board) rs) ds)
@@ -105,6 +116,9 @@ toReturn ticks more = start 2 ∷ send 2 1 0 ∷ deliver 0 ∷ rest 1 ∷ rest 2
 abbrev pub fromTwo : List StepRecord
 fromTwo = release 1 0 ∷ tick 1 ∷ release 1 0 ∷ tick 1 ∷ tick 1 ∷ release 1 0 ∷ deliver 0 ∷ []
 
+abbrev pub active : ℕ → UnitRecord
+active w = record { weight = w; countdown = 0; state = Active; suspended = false }
+
 unfoldable pub rows : List Row
 rows =
     shares 2 1
@@ -117,6 +131,13 @@ rows =
     ∷ shares 1048576 16384
     ∷ shares 1048577 16384
     ∷ shares 16777216 16384
+    ∷ judges 0 blankUnit blankSlot 4294967294 Start 0
+    ∷ judges 0 blankUnit blankSlot 4294967295 Start 44
+    ∷ judges 1 blankUnit blankSlot 4294967295 Start 37
+    ∷ judges 2 (active 2) blankSlot 4294967294 Send 0
+    ∷ judges 2 (active 2) blankSlot 4294967295 Send 44
+    ∷ judges 3 (active 2) (message Work 0 0 1) 4294967295 Send 34
+    ∷ judges 1 (active 1) blankSlot 4294967295 Send 33
     ∷ runs 11 0 (0 ∷ 1 ∷ []) (toWeightOne (send 2 0 10 ∷ [])) (allAccepted 15 (33 ∷ [])) Working
     ∷ runs 11 0 (0 ∷ 1 ∷ []) (toWeightOne (send 2 0 9 ∷ send 1 0 9 ∷ [])) (allAccepted 15 (33 ∷ 34 ∷ [])) Working
     ∷ runs 1 0 [] (start 0 ∷ start 0 ∷ []) (0 ∷ 37 ∷ []) Working
@@ -136,10 +157,12 @@ rows =
 -- ---- a sound board on which every step is refused: its one unit is suspended, and its request would pass 2^40. It is active, so no drain begins here
 unfoldable pub stuckBoard : Board
 stuckBoard =
-    changed (idleBoard 1 1 0 (replicate 64 0))
+    boardOf (changed (view (idleBoard 1 1 0 (replicate 64 0)))
     (record { weight = ceiling; countdown = 0; state = Active; suspended = true } ∷ replicate 63 blankUnit)
     (message Request 0 0 0 ∷ replicate 255 blankSlot)
     ceiling
+    (replicate 64 0)
+    (replicate 64 0)) noRound
 
 pub record Stuck (b : Board) : Type 0 where
   pub is-sound : Sound b

@@ -1,4 +1,5 @@
 -- Lists of events of one kind, on states of one kind: the state after a list, its answers, and sums over what was accepted of it.
+use mathlib.Core.Path.{_≡_}
 use mathlib.Core.Bool.{Bool, cond}
 use mathlib.Core.List.{List, [], _∷_}
 use Prim.Native.Nat.{ℕ, _+_}
@@ -26,3 +27,11 @@ accepts ev s e = eqb (ev .answer s e) 0
 unfoldable pub tallyAll : {S E : Type 0} → Events S E → (S → E → ℕ) → S → List E → ℕ
 tallyAll ev count s [] = 0
 tallyAll ev count s (e ∷ es) = cond (accepts ev s e) (count s e) 0 + tallyAll ev count (ev .next s e) es
+
+-- drain, the rules' own term: "A drain is a list of accepted steps, none a start"; the list of no steps is one
+abbrev pub DrainStepOf : {S E : Type 0} → Events S E → (S → E → ℕ) → S → E → Type 0
+DrainStepOf ev starts s e = (ev .answer s e ≡ 0) × (starts s e ≡ 0)
+
+unfoldable pub DrainOf : {S E : Type 0} → Events S E → (S → E → ℕ) → S → List E → Type 0
+DrainOf ev starts s [] = Unit {0}
+DrainOf ev starts s (e ∷ es) = DrainStepOf ev starts s e × DrainOf ev starts (ev .next s e) es

@@ -5,11 +5,13 @@ use mathlib.Core.List.{List, [], _∷_, _++_}
 use Prim.Native.Nat.{ℕ, zero, suc, _<_}
 use lib.Dec.{eqb}
 use Rattle.rules.specs.Facts.{Check, check, holds, test, judge}
-use Rattle.rules.specs.Words.{unitAt}
 use Rattle.rules.specs.Sound.{sound}
 use Rattle.rules.specs.Actions.{actionOf}
 use Rattle.rules.specs.Letters.{slotOf}
-use Rattle.rules.specs.Steps.{unitOf, placesOn, checksOn, doneOn, applied, step}
+use Rattle.rules.specs.Sheets.Sheet.{unitAt}
+use Rattle.rules.specs.Sheets.Steps.{unitOf, placesOn, checksOn, doneOn, applied}
+use Rattle.rules.specs.Boards.{view}
+use Rattle.rules.specs.Steps.{onBoard, step}
 use Rattle.rules.specs.declared.Action.{Action}
 use Rattle.rules.specs.declared.Action.the-variants.{Send}
 use Rattle.rules.specs.declared.Board.{Board}
@@ -54,11 +56,11 @@ RowsExchanged = (A : Type 0) (refused : ℕ → A) (cs : List Check) (result : A
 -- ---- of a step
 -- its whole bracket, with 30, which precedes all
 abbrev pub bracket : Board → StepRecord → Action → List Check
-bracket b r a = check (holds (sound b)) 30 ∷ placesOn b r a ++ checksOn b r a
+bracket b r a = check (holds (sound b)) 30 ∷ placesOn (view b) r a ++ checksOn (view b) r a
 
 -- the step as a row of checks judges it: a refusal leaves the board
 abbrev pub stepUnder : List Check → Board → StepRecord → Action → Outcome
-stepUnder cs b r a = judge (λ k. record { answer = k; board = b }) cs (applied b (unitOf b r a) (slotOf r a) (doneOn b r a))
+stepUnder cs b r a = judge (λ k. record { answer = k; board = b }) cs (onBoard (b .rounds) a (applied (view b) a (unitOf (view b) r a) (slotOf r a) (doneOn (view b) r a)))
 
 -- ---- of a send
 -- what it gives with 33 and the check behind it, 34, exchanged back
@@ -67,8 +69,8 @@ sendAsBefore b r = stepUnder (exchanged (placeBy 33 (bracket b r Send)) (bracket
 
 -- what a send answers now, where it answered k: 34 becomes 33 where the weight is below 2 too, and no other answer changes
 pub data AnswersNow (b : Board) (r : StepRecord) (k : ℕ) : Type 0 where
-  becomes33 : k ≡ 34 → unitAt b (r .unit) .weight < 2 → step b r .answer ≡ 33 → AnswersNow b r k
-  stays : (k ≡ 34 → unitAt b (r .unit) .weight < 2 → ⊥) → step b r .answer ≡ k → AnswersNow b r k
+  becomes33 : k ≡ 34 → unitAt (view b) (r .unit) .weight < 2 → step b r .answer ≡ 33 → AnswersNow b r k
+  stays : (k ≡ 34 → unitAt (view b) (r .unit) .weight < 2 → ⊥) → step b r .answer ≡ k → AnswersNow b r k
 
 -- for every board and every send: the answer, and the board after it, which is the same either way
 unfoldable pub SendsReordered : Type 0

@@ -1,27 +1,17 @@
 -- Finished: what is told of a board, and what it is to mean.
-use mathlib.Core.Path.{_≡_}
-use mathlib.Core.Bool.{cond}
 use mathlib.Core.List.{[], _∷_}
-use Prim.Native.Nat.{ℕ}
-use lib.Dec.{eqb}
 use Rattle.rules.specs.Facts.{check, holds, judge}
-use Rattle.rules.specs.Words.{unitAt, slotAt}
+use Rattle.rules.specs.Boards.{view}
 use Rattle.rules.specs.Sound.{sound}
-use Rattle.rules.specs.declared.State.the-variants.{Idle}
-use Rattle.rules.specs.declared.Kind.the-variants.{Empty}
+use Rattle.rules.specs.Sheets.Finished.{Complete as CompleteSheet, toldFrom}
 use Rattle.rules.specs.declared.Board.{Board}
 use Rattle.rules.specs.declared.Verdict.{Verdict}
-use Rattle.rules.specs.declared.Verdict.the-variants.{Working, Finished, Refused}
+use Rattle.rules.specs.declared.Verdict.the-variants.{Refused}
 
--- "Finished means debt 0"
-abbrev pub toldFrom : ℕ → Verdict
-toldFrom debt = cond (eqb debt 0) Finished Working
-
--- ".. and is told from the debt of a sound board; an unsound one gets 30"
+-- "Finished .. is told from the debt of a sound board; an unsound one gets 30"
 unfoldable pub verdict : Board → Verdict
 verdict b = judge Refused (check (holds (sound b)) 30 ∷ []) (toldFrom (b .debt))
 
 -- every unit is idle and every slot empty
-pub record Complete (b : Board) : Type 0 where
-  pub idle : (i : ℕ) → unitAt b i .state ≡ Idle
-  pub empty : (j : ℕ) → slotAt b j .kind ≡ Empty
+abbrev pub Complete : Board → Type 0
+Complete b = CompleteSheet (view b)

@@ -1,19 +1,26 @@
--- The guarantee: one claim about every accepted opening and every list of steps, in whatever order.
+-- The guarantee: one claim about every accepted opening and every list of steps, beginnings and visits, in whatever order.
 use mathlib.Core.Path.{_≡_}
 use mathlib.Core.List.{List, _++_}
 use mathlib.Core.Logic.{_↔_}
 use Prim.Native.Nat.{ℕ, _+_, _*_, _≤_, _<_, _^_}
 use lib.ListN.{length}
 use Rattle.rules.specs.Words.{grant}
-use Rattle.rules.specs.Sound.{Sound, weightOut}
+use Rattle.rules.specs.Events.{Events, afterAll, tallyAll, DrainStepOf, DrainOf}
+use Rattle.rules.specs.Sheets.Sheet.{Sheet}
+use Rattle.rules.specs.Sheets.Sound.{Sound as SoundSheet, weightOut}
+use Rattle.rules.specs.Sheets.Lists.{steps as sheetSteps, startCount, grantCount, takenCount}
+use Rattle.rules.specs.Sheets.Finished.{verdict as sheetVerdict, Complete}
+use Rattle.rules.specs.Sheets.Drains.{Quiet as QuietSheet, Way, There, wayStep, returnsUnderWay, drainBound}
+use Rattle.rules.specs.Boards.{view}
+use Rattle.rules.specs.Sound.{Sound}
 use Rattle.rules.specs.Opening.{opening}
 use Rattle.rules.specs.Steps.{step}
-use Rattle.rules.specs.Events.{Events, afterAll, tallyAll}
-use Rattle.rules.specs.Lists.{steps, after, tally, startCount, grantCount, takenCount}
-use Rattle.rules.specs.Finished.{verdict, Complete}
-use Rattle.rules.specs.Drains.{Quiet, Drain, DrainStep, Way, There, wayStep, returnsUnderWay, drainBound}
+use Rattle.rules.specs.Lists.{steps, Event, events, countBy}
+use Rattle.rules.specs.Finished.{verdict}
+use Rattle.rules.specs.Drains.{Quiet, Drain}
 use Rattle.rules.specs.declared.Board.{Board}
 use Rattle.rules.specs.declared.StepRecord.{StepRecord}
+use Rattle.rules.specs.declared.Verdict.{Verdict}
 use Rattle.rules.specs.declared.Verdict.the-variants.{Finished}
 
 -- a step record that can be handed over: its fields have 16 bits
@@ -23,72 +30,89 @@ pub record Fits16 (r : StepRecord) : Type 0 where
   pub other : r .other < 2 ^ 16
   pub slot : r .slot < 2 ^ 16
 
+-- ---- states that show a sheet: which of them are sound, how they take steps, and what finished tells of them
+pub record Model (S : Type 0) : Type 1 where
+  pub shows : S → Sheet
+  pub Good : S → Type 0
+  pub takes : Events S StepRecord
+  pub told : S → Verdict
+
+abbrev pub sheets : Model Sheet
+sheets = record { shows = λ b. b; Good = SoundSheet; takes = sheetSteps; told = sheetVerdict }
+
+abbrev pub boards : Model Board
+boards = record { shows = view; Good = Sound; takes = steps; told = verdict }
+
 -- a way to make a drain that has led to b one longer, that it is there, and that its step does
-pub record Longer (b : Board) : Type 0 where
+pub record Longer {S : Type 0} (M : Model S) (b : S) : Type 0 where
   pub way : Way
-  pub there : There b way
-  pub fits : Fits16 (wayStep b way)
-  pub drains : DrainStep b (wayStep b way)
+  pub there : There (M .shows b) way
+  pub fits : Fits16 (wayStep (M .shows b) way)
+  pub drains : DrainStepOf (M .takes) (λ c. startCount (M .shows c)) b (wayStep (M .shows b) way)
 
 -- every drain from b is bounded, and until finished some step makes it one longer
-pub record Drains (b : Board) : Type 0 where
-  pub bounded : (rs : List StepRecord) → Drain b rs → length rs ≤ drainBound b
-  pub unstuck : (rs : List StepRecord) → Drain b rs → (verdict (after b rs) ≡ Finished → ⊥) → Longer (after b rs)
+pub record Drains {S : Type 0} (M : Model S) (b : S) : Type 0 where
+  pub bounded : (rs : List StepRecord) → DrainOf (M .takes) (λ c. startCount (M .shows c)) b rs → length rs ≤ drainBound (M .shows b)
+  pub unstuck : (rs : List StepRecord) → DrainOf (M .takes) (λ c. startCount (M .shows c)) b rs → (M .told (afterAll (M .takes) b rs) ≡ Finished → ⊥) → Longer M (afterAll (M .takes) b rs)
 
--- ---- over events of any kind on a board, with what each counts for: starts, granted requests, and what unit 0 takes back
-pub record History (E : Type 0) : Type 0 where
-  pub starts : Board → E → ℕ
-  pub grants : Board → E → ℕ
-  pub taken : Board → E → ℕ
+-- ---- over events of any kind, with what each counts for: starts, granted requests, and what unit 0 takes back
+pub record History (S E : Type 0) : Type 0 where
+  pub starts : S → E → ℕ
+  pub grants : S → E → ℕ
+  pub taken : S → E → ℕ
 
--- what holds of the board b that the list es left, where es began on the board f
-pub record GuaranteedOf {E : Type 0} (ev : Events Board E) (h : History E) (f : Board) (es : List E) (b : Board) : Type 0 where
+-- what holds of the state b that the list es left, where es began on the state f
+pub record GuaranteedOf {S E : Type 0} (M : Model S) (ev : Events S E) (h : History S E) (f : S) (es : List E) (b : S) : Type 0 where
   -- the board is sound
-  pub is-sound : Sound b
+  pub is-sound : M .Good b
   -- weight is conserved: what is in units and slots is the debt
-  pub conserved : weightOut b ≡ b .debt
+  pub conserved : weightOut (M .shows b) ≡ M .shows b .debt
   -- the debt and what unit 0 took back are what starts and grants brought in
-  pub accounted : b .debt + tallyAll ev (h .taken) f es ≡ grant * (tallyAll ev (h .starts) f es + tallyAll ev (h .grants) f es)
+  pub accounted : M .shows b .debt + tallyAll ev (h .taken) f es ≡ grant * (tallyAll ev (h .starts) f es + tallyAll ev (h .grants) f es)
   -- finished is said exactly when every unit is idle and every slot empty
-  pub finished : (verdict b ≡ Finished) ↔ Complete b
+  pub finished : (M .told b ≡ Finished) ↔ Complete (M .shows b)
   -- with no unit active and no work under way, drains are bounded and never stuck
-  pub drains : Quiet b → Drains b
+  pub drains : QuietSheet (M .shows b) → Drains M b
 
--- for every accepted opening and every list of events
-unfoldable pub GuaranteeOf : {E : Type 0} → Events Board E → History E → Type 0
-GuaranteeOf {E} ev h = (m d : ℕ) (ps : List ℕ) (es : List E) → opening m d ps .answer ≡ 0 → GuaranteedOf ev h (opening m d ps .board) es (afterAll ev (opening m d ps .board) es)
+-- ---- over boards: for every accepted opening and every list of events
+unfoldable pub GuaranteeOf : {E : Type 0} → Events Board E → History Board E → Type 0
+GuaranteeOf {E} ev h = (m d : ℕ) (ps : List ℕ) (es : List E) → opening m d ps .answer ≡ 0 → GuaranteedOf boards ev h (opening m d ps .board) es (afterAll ev (opening m d ps .board) es)
 
 -- the guarantee as a call carries it to its caller: of every accepted opening and list qs that led to b, where es then led to c
-abbrev pub CarriesOf : {E : Type 0} → Events Board E → History E → Board → List E → Board → Type 0
+abbrev pub CarriesOf : {E : Type 0} → Events Board E → History Board E → Board → List E → Board → Type 0
 CarriesOf {E} ev h b es c =
     (m d : ℕ) (ps : List ℕ) (qs : List E) → opening m d ps .answer ≡ 0 → b ≡ afterAll ev (opening m d ps .board) qs
-    → GuaranteedOf ev h (opening m d ps .board) (qs ++ es) c
+    → GuaranteedOf boards ev h (opening m d ps .board) (qs ++ es) c
 
--- ---- over steps: the guarantee
-abbrev pub stepHistory : History StepRecord
+-- ---- over steps, beginnings and visits: the guarantee
+abbrev pub stepHistory : History Sheet StepRecord
 stepHistory = record { starts = startCount; grants = grantCount; taken = takenCount }
 
-abbrev pub Guaranteed : Board → List StepRecord → Board → Type 0
-Guaranteed f rs b = GuaranteedOf steps stepHistory f rs b
+abbrev pub eventHistory : History Board Event
+eventHistory = record { starts = countBy startCount; grants = countBy grantCount; taken = countBy takenCount }
+
+abbrev pub Guaranteed : Board → List Event → Board → Type 0
+Guaranteed f es b = GuaranteedOf boards events eventHistory f es b
 
 abbrev pub Guarantee : Type 0
-Guarantee = GuaranteeOf steps stepHistory
+Guarantee = GuaranteeOf events eventHistory
 
-abbrev pub Carries : Board → List StepRecord → Board → Type 0
-Carries b rs c = CarriesOf steps stepHistory b rs c
+abbrev pub Carries : Board → List Event → Board → Type 0
+Carries b es c = CarriesOf events eventHistory b es c
 
 -- on a finished board that a list left, every step but a start is refused
 unfoldable pub FinishedRefuses : Type 0
 FinishedRefuses =
-    (m d : ℕ) (ps : List ℕ) (rs : List StepRecord) (r : StepRecord) → opening m d ps .answer ≡ 0
-    → verdict (after (opening m d ps .board) rs) ≡ Finished → startCount (after (opening m d ps .board) rs) r ≡ 0
-    → step (after (opening m d ps .board) rs) r .answer ≡ 0 → ⊥
+    (m d : ℕ) (ps : List ℕ) (es : List Event) (r : StepRecord) → opening m d ps .answer ≡ 0
+    → verdict (afterAll events (opening m d ps .board) es) ≡ Finished → startCount (view (afterAll events (opening m d ps .board) es)) r ≡ 0
+    → step (afterAll events (opening m d ps .board) es) r .answer ≡ 0 → ⊥
 
 -- on a finished board that a list left, unit 0 took back all that starts and grants brought in
 unfoldable pub FinishedAllBack : Type 0
 FinishedAllBack =
-    (m d : ℕ) (ps : List ℕ) (rs : List StepRecord) → opening m d ps .answer ≡ 0 → verdict (after (opening m d ps .board) rs) ≡ Finished
-    → tally takenCount (opening m d ps .board) rs ≡ grant * (tally startCount (opening m d ps .board) rs + tally grantCount (opening m d ps .board) rs)
+    (m d : ℕ) (ps : List ℕ) (es : List Event) → opening m d ps .answer ≡ 0 → verdict (afterAll events (opening m d ps .board) es) ≡ Finished
+    → tallyAll events (eventHistory .taken) (opening m d ps .board) es
+    ≡ grant * (tallyAll events (eventHistory .starts) (opening m d ps .board) es + tallyAll events (eventHistory .grants) (opening m d ps .board) es)
 
 -- an accepted step never leaves the board as it was
 unfoldable pub AcceptedChanges : Type 0
@@ -99,4 +123,4 @@ AcceptedChanges = (b : Board) (r : StepRecord) → step b r .answer ≡ 0 → st
 unfoldable pub ReturnsCountLess : Type 0
 ReturnsCountLess =
     (b : Board) → Sound b → Quiet b → (rs : List StepRecord) → Drain b rs
-    → (length rs + returnsUnderWay b * (b .delay + 1) ≤ drainBound b) × (1 ≤ returnsUnderWay b → length rs < drainBound b)
+    → (length rs + returnsUnderWay (view b) * (b .delay + 1) ≤ drainBound (view b)) × (1 ≤ returnsUnderWay (view b) → length rs < drainBound (view b))

@@ -1,17 +1,23 @@
 -- What a reader must believe, in the order to read it.
 pub mod Facts
 pub mod Words
+pub mod Actions
+pub mod Letters
+pub mod Effects
+pub mod Events
+pub mod Sheets
+pub mod Rounds
+pub mod Boards
 pub mod Sound
 pub mod Opening
 pub mod Depths
-pub mod Actions
-pub mod Letters
 pub mod Steps
-pub mod Events
+pub mod Visits
 pub mod Lists
 pub mod Finished
 pub mod Drains
 pub mod Guarantee
+pub mod Verdicts
 pub mod Runs
 pub mod Exchanges
 pub mod Cases

@@ -1,21 +1,17 @@
--- A list of steps: the board after it, its answers, and its history, each read on the board just before the step.
-use mathlib.Core.Bool.{Bool, cond, _&&_}
-use mathlib.Core.List.{List}
+-- Lists on a board: of steps, and of events, which are steps, beginnings and visits (M-105).
+use mathlib.Core.Bool.{Bool}
+use mathlib.Core.List.{List, [], _∷_}
 use Prim.Native.Nat.{ℕ}
-use lib.Dec.{eqb}
-use Rattle.rules.specs.Facts.{oneIf}
-use Rattle.rules.specs.Events.{Events, afterAll, allAnswers, accepts, tallyAll}
-use Rattle.rules.specs.Words.{isReturn, isRequest, unitAt, slotAt}
-use Rattle.rules.specs.Actions.{actionOf, isAction}
+use Rattle.rules.specs.Events.{Events, afterAll, allAnswers, accepts}
+use Rattle.rules.specs.Rounds.{numberOf}
+use Rattle.rules.specs.Sheets.Sheet.{Sheet}
+use Rattle.rules.specs.Boards.{view}
 use Rattle.rules.specs.Steps.{step}
-use Rattle.rules.specs.declared.Action.{Action}
-use Rattle.rules.specs.declared.Action.the-variants.{Start, Deliver, Rest}
-use Rattle.rules.specs.declared.UnitRecord.{UnitRecord}
-use Rattle.rules.specs.declared.Slot.{Slot}
+use Rattle.rules.specs.Visits.{begin, visit}
 use Rattle.rules.specs.declared.Board.{Board}
 use Rattle.rules.specs.declared.StepRecord.{StepRecord}
 
--- steps as events: each gets the board that the step before it returned; after a refusal that is the same board
+-- steps: each gets the board that the step before it returned; after a refusal that is the same board
 abbrev pub steps : Events Board StepRecord
 steps = record { next = λ b r. step b r .board; answer = λ b r. step b r .answer }
 
@@ -28,30 +24,32 @@ answers b rs = allAnswers steps b rs
 abbrev pub accepted : Board → StepRecord → Bool
 accepted b r = accepts steps b r
 
--- the sum over a list of what its accepted steps count for
-abbrev pub tally : (Board → StepRecord → ℕ) → Board → List StepRecord → ℕ
-tally count b rs = tallyAll steps count b rs
+-- ---- events
+pub data Event : Type 0 where
+  takes : StepRecord → Event
+  begins : Event
+  visits : ℕ → Event
 
--- 1 for a start
-abbrev pub startBy : Action → ℕ
-startBy a = oneIf (isAction Start a)
+abbrev pub nextBy : Board → Event → Board
+nextBy b (takes r) = step b r .board
+nextBy b begins = begin b .board
+nextBy b (visits u) = visit b u .board
 
-abbrev pub startCount : Board → StepRecord → ℕ
-startCount b r = startBy (actionOf (r .kind))
+abbrev pub answerBy : Board → Event → ℕ
+answerBy b (takes r) = step b r .answer
+answerBy b begins = begin b .answer
+answerBy b (visits u) = numberOf (visit b u .finding)
 
--- 1 for a granted request: the delivery of a slot that holds a request
-abbrev pub grantBy : Slot → Action → ℕ
-grantBy y a = oneIf (isAction Deliver a && isRequest (y .kind))
+abbrev pub events : Events Board Event
+events = record { next = nextBy; answer = answerBy }
 
-abbrev pub grantCount : Board → StepRecord → ℕ
-grantCount b r = grantBy (slotAt b (r .slot)) (actionOf (r .kind))
+-- steps as events
+unfoldable pub taking : List StepRecord → List Event
+taking [] = []
+taking (r ∷ rs) = takes r ∷ taking rs
 
--- what unit 0 takes back: all of the weight w where it is unit u that gets it, the receiver of a return or the unit that rests
-abbrev pub takenAt : ℕ → ℕ → ℕ
-takenAt u w = cond (eqb u 0) w 0
-
-abbrev pub takenBy : ℕ → UnitRecord → Slot → Action → ℕ
-takenBy u x y a = cond (isAction Deliver a) (cond (isReturn (y .kind)) (takenAt (y .to) (y .weight)) 0) (cond (isAction Rest a) (takenAt u (x .weight)) 0)
-
-abbrev pub takenCount : Board → StepRecord → ℕ
-takenCount b r = takenBy (r .unit) (unitAt b (r .unit)) (slotAt b (r .slot)) (actionOf (r .kind))
+-- what an event counts for, by a count of steps on sheets; a beginning and a visit count for nothing
+abbrev pub countBy : (Sheet → StepRecord → ℕ) → Board → Event → ℕ
+countBy count b (takes r) = count (view b) r
+countBy count b begins = 0
+countBy count b (visits u) = 0

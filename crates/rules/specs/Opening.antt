@@ -5,6 +5,7 @@ use Prim.Native.Nat.{ℕ, suc, _-_}
 use lib.ListN.{length, replicate}
 use Rattle.rules.specs.Facts.{Check, check, atMost, below, holds, each, judge}
 use Rattle.rules.specs.Words.{blankUnit, blankSlot}
+use Rattle.rules.specs.Rounds.{noRound}
 use Rattle.rules.specs.declared.Board.{Board}
 use Rattle.rules.specs.declared.Outcome.{Outcome}
 
@@ -22,9 +23,20 @@ openingChecks m d ps =
     ∷ check (holds (lowerParents ps)) 12
     ∷ []
 
--- a board of these sizes and parents with debt 0, "all idle and empty"
+-- a board of these sizes and parents with debt 0, "all idle and empty"; counts 0 and no round (M-105)
 abbrev pub idleBoard : ℕ → ℕ → ℕ → List ℕ → Board
-idleBoard n m d parents = record { n = n; m = m; delay = d; debt = 0; parents = parents; units = replicate 64 blankUnit; slots = replicate 256 blankSlot }
+idleBoard n m d parents = record {
+  n = n;
+  m = m;
+  delay = d;
+  debt = 0;
+  parents = parents;
+  units = replicate 64 blankUnit;
+  slots = replicate 256 blankSlot;
+  created = replicate 64 0;
+  processed = replicate 64 0;
+  rounds = noRound;
+}
 
 -- the fresh board; n is the number of parents plus 1
 unfoldable pub fresh : ℕ → ℕ → List ℕ → Board

@@ -1,14 +1,12 @@
--- Words for the states, the kinds and the records, and how a board is read.
+-- Words for the states, the kinds and the records.
 use mathlib.Core.Bool.{Bool, true, false}
 use Prim.Native.Nat.{ℕ}
-use lib.ListN.{getD}
 use Rattle.rules.specs.declared.State.{State}
 use Rattle.rules.specs.declared.State.the-variants.{Idle, Active, Waiting}
 use Rattle.rules.specs.declared.Kind.{Kind}
 use Rattle.rules.specs.declared.Kind.the-variants.{Empty, Work, Return, Request, Supply}
 use Rattle.rules.specs.declared.UnitRecord.{UnitRecord}
 use Rattle.rules.specs.declared.Slot.{Slot}
-use Rattle.rules.specs.declared.Board.{Board}
 
 abbrev pub isIdle : State → Bool
 isIdle Idle = true
@@ -60,16 +58,6 @@ blankUnit = record { weight = 0; countdown = 0; state = Idle; suspended = false 
 abbrev pub blankSlot : Slot
 blankSlot = record { weight = 0; from = 0; to = 0; kind = Empty }
 
--- the entries of a board by their numbers
-abbrev pub parentAt : Board → ℕ → ℕ
-parentAt b i = getD (b .parents) i 0
-
-abbrev pub unitAt : Board → ℕ → UnitRecord
-unitAt b i = getD (b .units) i blankUnit
-
-abbrev pub slotAt : Board → ℕ → Slot
-slotAt b j = getD (b .slots) j blankSlot
-
 -- 2^24, the weight that a start or a grant brings into the board
 abbrev pub grant : ℕ
 grant = 16777216
@@ -77,3 +65,7 @@ grant = 16777216
 -- 2^40, the most that the debt may be
 abbrev pub ceiling : ℕ
 ceiling = 1099511627776
+
+-- 2^32 - 1, the most that a created count may be (M-105)
+abbrev pub full : ℕ
+full = 4294967295

@@ -1,8 +1,10 @@
 // The records of the weight board. What they mean is in specs/: each definition there cites its part of the rules.
 // "The rules' own term" marks the place of a word that the rules bring in.
+mod counting;
+
 ghost use mathlib.Core.Path.{_≡_};
 ghost use Rattle.rules.specs.Words.{isIdle, isActive, isWaiting, isEmpty};
-ghost use Rattle.rules.specs.Steps.{shared};
+ghost use Rattle.rules.specs.Effects.{shared};
 
 // The state of a unit. Waiting, the rules' own term, is the state between resting and giving its weight back.
 pub enum State {
@@ -36,6 +38,21 @@ pub struct Slot {
     pub kind: Kind, // empty where no message is under way
 }
 
+// Which counting round is open (M-105).
+pub enum Round {
+    None,
+    One,
+    Two,
+}
+
+// The counting rounds (M-105): a second way to see that all is quiet, beside the weights. No step but a start touches them.
+pub struct Rounds {
+    pub round: Round, // which is open
+    pub visited: [bool; 64], // the units that the open round has visited; false from n on
+    pub processed: u64, // round one's total, of the visited units' processed counts
+    pub created: u64, // round two's total, of the visited units' created counts
+}
+
 // The weight board. A caller may hand over any; which are sound is tested.
 pub struct Board {
     pub n: u16, // units in use, 1 to 64; unit 0 is the root, and tells the end
@@ -45,6 +62,9 @@ pub struct Board {
     pub parents: [u16; 64], // the parent of each unit, lower than the unit; 0 for unit 0
     pub units: [UnitRecord; 64], // blank from n on
     pub slots: [Slot; 256], // blank from m on
+    pub created: [u32; 64], // how often each unit created work; 0 from n on. Apart from the units, whose records stay at 16 bytes
+    pub processed: [u64; 64], // how often each unit processed work; 0 from n on
+    pub rounds: Rounds, // blank where no round is open
 }
 
 // One step as a caller asks for it: a kind from 1 to 7, and the fields that the kind has a letter for.
@@ -80,12 +100,19 @@ pub enum Effect {
     OnBoth(UnitRecord, Slot, u64),
 }
 
-// What an effect leaves: the answer, and the debt, the unit and the slot after the step; as they were where it is refused.
+// The counts of a unit.
+pub struct Counts {
+    pub created: u32, // accepted sends and starts
+    pub processed: u64, // accepted deliveries of work, and starts
+}
+
+// What an effect leaves: the answer, and the debt, the unit, the slot and the unit's counts after the step; as they were where it is refused.
 pub struct Change {
     pub answer: u16,
     pub debt: u64,
     pub unit: UnitRecord,
     pub slot: Slot,
+    pub counts: Counts,
 }
 
 // What an opening or a step gives: the board after it, and 0 or the number that refused it.
@@ -108,6 +135,20 @@ pub enum Verdict {
     Refused(u16),
 }
 
+// What a visit of a counting round finds (M-105). AllQuiet is the verdict "quiet".
+pub enum Finding {
+    NoVerdict,
+    AllQuiet,
+    Unsettled,
+    Refused(u16),
+}
+
+// What a visit gives: the board after it, and what it found.
+pub struct Visited {
+    pub board: Board,
+    pub finding: Finding,
+}
+
 // What a run over a list gives: how many zeros it wrote among the answers, or the number that refused it.
 pub enum Ran {
     Zeros(usize),
@@ -119,6 +160,9 @@ pub const GRANT: u64 = 16777216;
 
 // The most that the debt may be: 2^40.
 pub const CEILING: u64 = 1099511627776;
+
+// The most that a created count may be: 2^32 - 1.
+pub const FULL: u32 = 4294967295;
 
 // The most steps of a batch: the test of soundness and the copies of the board, once for each batch, are then a small part of its cost.
 pub const BATCH: usize = 512;

@@ -13,7 +13,7 @@ use Rattle.rules.specs.Events.{afterAll, allAnswers}
 use Rattle.rules.specs.Facts.{oneIf}
 use Rattle.rules.specs.Sound.{sound}
 use Rattle.rules.specs.Steps.{step}
-use Rattle.rules.specs.Lists.{after, answers, accepted}
+use Rattle.rules.specs.Lists.{after, answers, accepted, taking}
 use Rattle.rules.specs.Runs.{zeros, debts, batchMost, padded, batch, batchSteps}
 use Rattle.rules.specs.Guarantee.{Carries}
 use Rattle.rules.specs.declared.Board.{Board}
@@ -22,7 +22,7 @@ use Rattle.rules.specs.declared.Outcome.{Outcome}
 use Rattle.rules.specs.declared.Batch.{Batch}
 use Rattle.rules.specs.declared.Ran.the-variants.{Zeros, Refused}
 use Rattle.rules.proofs.SoundLaws.{below-or-not}
-use Rattle.rules.proofs.Theorem.{carries}
+use Rattle.rules.proofs.Theorem.{steps-carry}
 use Rattle.steps.specs.NoStep.{noStep}
 
 -- the batch where the steps rs are left on the board b, z zeros are counted, and the next answer and the next debt go to place i of ks and ds
@@ -133,9 +133,9 @@ filled-batch b steps count t n l e f = ap (λ (m : ℕ). unlessUnsound t (filled
     by-test false = ap (unlessUnsound false) (filled-none b 0 0 noughts noughts)
 
 -- ---- the guarantee
-pub batch-carries : (b : Board) (rs : List StepRecord) (x : Batch) → x ≡ batch b rs → Carries b (batchSteps b rs) (x .board)
+pub batch-carries : (b : Board) (rs : List StepRecord) (x : Batch) → x ≡ batch b rs → Carries b (taking (batchSteps b rs)) (x .board)
 unfolding batch batchSteps afterAll
-batch-carries b rs x e = subst (λ (c : Board). Carries b (batchSteps b rs) c) (sym (ap (λ (y : Batch). y .board) e ∙ by-test (sound b))) (carries b (batchSteps b rs))
+batch-carries b rs x e = subst (λ (c : Board). Carries b (taking (batchSteps b rs)) c) (sym (ap (λ (y : Batch). y .board) e ∙ by-test (sound b))) (steps-carry b (batchSteps b rs))
   where
     by-test : (t : Bool) → batchBy t b rs .board ≡ after b (cond t rs [])
     by-test true = refl

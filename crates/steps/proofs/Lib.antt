@@ -1,4 +1,5 @@
 pub mod Flags
+pub mod CountingLaws
 pub mod Clamping
 pub mod Changing
 pub mod StepLaws

@@ -11,7 +11,7 @@ use borrow.Author.Tests.{leb-true}
 use Rattle.rules.specs.Events.{afterAll, allAnswers}
 use Rattle.rules.specs.Sound.{sound}
 use Rattle.rules.specs.Steps.{step}
-use Rattle.rules.specs.Lists.{after, answers}
+use Rattle.rules.specs.Lists.{after, answers, taking}
 use Rattle.rules.specs.Runs.{zeros, runAnswer, runBoard, runBuffer, ranSteps}
 use Rattle.rules.specs.Guarantee.{Carries}
 use Rattle.rules.specs.declared.Board.{Board}
@@ -20,8 +20,8 @@ use Rattle.rules.specs.declared.Outcome.{Outcome}
 use Rattle.rules.specs.declared.Ran.{Ran}
 use Rattle.rules.specs.declared.Ran.the-variants.{Zeros, Refused}
 use Rattle.rules.proofs.SoundLaws.{sound-claims, sound-tested}
-use Rattle.rules.proofs.ListLaws.{step-keeps-sound}
-use Rattle.rules.proofs.Theorem.{carries}
+use Rattle.rules.proofs.EventSound.{step-keeps-sound}
+use Rattle.rules.proofs.Theorem.{steps-carry}
 use Rattle.steps.specs.Turns.{refusalOf, turnsOf, countedOf, ranOf}
 use Rattle.steps.specs.NoStep.{noStep}
 use Rattle.steps.proofs.RunTurns.{begun, taken, counts, written}
@@ -100,16 +100,16 @@ allowed b steps room k n i k-is n-is l = by-tests (sound b) (leb steps room) ref
     by-tests false u′ s u e = absurd (omega (arith, e, l))
 
 -- ---- the end of a run
-carries-none : (b : Board) → Carries b [] b
+carries-none : (b : Board) → Carries b (taking []) b
 unfolding afterAll
-carries-none b = carries b []
+carries-none b = steps-carry b []
 
-run-carries : (b : Board) (rs : List StepRecord) (out : List ℕ) → Carries b (ranSteps b rs out) (runBoard b rs out)
+run-carries : (b : Board) (rs : List StepRecord) (out : List ℕ) → Carries b (taking (ranSteps b rs out)) (runBoard b rs out)
 unfolding ranSteps runBoard
 run-carries b rs out = by-tests (sound b) (leb (length rs) (length out))
   where
-    by-tests : (s u : Bool) → Carries b (cond s (cond u rs []) []) (cond s (cond u (after b rs) b) b)
-    by-tests true true = carries b rs
+    by-tests : (s u : Bool) → Carries b (taking (cond s (cond u rs []) [])) (cond s (cond u (after b rs) b) b)
+    by-tests true true = steps-carry b rs
     by-tests true false = carries-none b
     by-tests false u = carries-none b
 
@@ -150,7 +150,7 @@ module _ (b : Board) (rs : List StepRecord) (out : List ℕ) (k n : ℕ) (k-is :
         gives = all .0;
         board = all .1 .0;
         buffer = all .1 .1;
-        carries = subst (λ (d : Board). Carries b (ranSteps b rs out) d) (sym (all .1 .0)) (run-carries b rs out);
+        carries = subst (λ (d : Board). Carries b (taking (ranSteps b rs out)) d) (sym (all .1 .0)) (run-carries b rs out);
       }
 
 -- ---- a part of a list

@@ -1,11 +1,14 @@
 -- What a step changes, from the records at its places alone.
 use mathlib.Core.Bool.{Bool}
 use mathlib.Core.List.{_∷_}
-use Prim.Native.Nat.{ℕ, min}
+use Prim.Native.Nat.{ℕ, _+_, min}
 use Rattle.rules.specs.Facts.{check, holds, judge}
 use Rattle.rules.specs.Actions.{actionOf}
 use Rattle.rules.specs.Letters.{slotOf, unitBy, placeChecks}
-use Rattle.rules.specs.Steps.{recordRule, changeOf}
+use Rattle.rules.specs.Effects.{recordRule, createdBy, processedBy, changeOf}
+use Rattle.rules.specs.Words.{full}
+use Rattle.rules.specs.declared.Action.{Action}
+use Rattle.rules.specs.declared.Counts.{Counts}
 use Rattle.rules.specs.declared.Effect.{Effect}
 use Rattle.rules.specs.declared.Effect.the-variants.{Refused}
 use Rattle.rules.specs.declared.UnitRecord.{UnitRecord}
@@ -21,8 +24,12 @@ abbrev pub unitPlace : StepRecord → ℕ → ℕ
 unitPlace r to = min (unitBy r to (actionOf (r .kind))) 63
 
 -- the whole bracket of a step, where it is known whether the board is sound, then what its effect leaves; p is the unit's parent
-abbrev pub effectOn : Bool → ℕ → ℕ → ℕ → ℕ → StepRecord → UnitRecord → ℕ → Slot → Effect
-effectOn sound n m debt delay r x p y = judge Refused (check (holds sound) 30 ∷ placeChecks n m r (actionOf (r .kind))) (recordRule debt delay r x p y (actionOf (r .kind)))
+abbrev pub effectOn : Bool → ℕ → ℕ → ℕ → ℕ → StepRecord → UnitRecord → ℕ → Slot → ℕ → Effect
+effectOn sound n m debt delay r x p y made = judge Refused (check (holds sound) 30 ∷ placeChecks n m r (actionOf (r .kind))) (recordRule debt delay r x p y made (actionOf (r .kind)))
 
-abbrev pub changeAt : Bool → ℕ → ℕ → ℕ → ℕ → StepRecord → UnitRecord → ℕ → Slot → Change
-changeAt sound n m debt delay r x p y = changeOf (effectOn sound n m debt delay r x p y) x y debt
+-- the counts after an accepted step; a full count, which no accepted step raises, stays
+abbrev pub countedUp : Counts → Slot → Action → Counts
+countedUp k y a = record { created = min (k .created + createdBy a) full; processed = k .processed + processedBy y a }
+
+abbrev pub changeAt : Bool → ℕ → ℕ → ℕ → ℕ → StepRecord → UnitRecord → ℕ → Slot → Counts → Change
+changeAt sound n m debt delay r x p y k = changeOf (effectOn sound n m debt delay r x p y (k .created)) x y debt k (countedUp k y (actionOf (r .kind)))

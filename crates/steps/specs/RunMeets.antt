@@ -3,6 +3,7 @@ use mathlib.Core.Path.{_≡_}
 use mathlib.Core.List.{List}
 use Prim.Native.Nat.{ℕ}
 use Rattle.rules.specs.Runs.{runAnswer, runBoard, runBuffer, ranSteps}
+use Rattle.rules.specs.Lists.{taking}
 use Rattle.rules.specs.Guarantee.{Carries}
 use Rattle.rules.specs.declared.Board.{Board}
 use Rattle.rules.specs.declared.StepRecord.{StepRecord}
@@ -13,4 +14,4 @@ pub record RunMeets (b : Board) (rs : List StepRecord) (out : List ℕ) (e : Ran
   pub gives : e ≡ runAnswer b rs out
   pub board : c ≡ runBoard b rs out
   pub buffer : ks ≡ runBuffer b rs out
-  pub carries : Carries b (ranSteps b rs out) c
+  pub carries : Carries b (taking (ranSteps b rs out)) c

@@ -3,6 +3,7 @@ use mathlib.Core.Path.{_≡_}
 use mathlib.Core.List.{[], _∷_}
 use Prim.Native.Nat.{ℕ}
 use Rattle.rules.specs.Steps.{step}
+use Rattle.rules.specs.Lists.{takes}
 use Rattle.rules.specs.Guarantee.{Carries}
 use Rattle.rules.specs.declared.Board.{Board}
 use Rattle.rules.specs.declared.StepRecord.{StepRecord}
@@ -11,4 +12,4 @@ use Rattle.rules.specs.declared.StepRecord.{StepRecord}
 pub record StepMeets (b : Board) (r : StepRecord) (k : ℕ) (c : Board) : Type 0 where
   pub answer : k ≡ step b r .answer
   pub board : c ≡ step b r .board
-  pub carries : Carries b (r ∷ []) c
+  pub carries : Carries b (takes r ∷ []) c

@@ -2,10 +2,13 @@
 use crate::changes::change_at;
 use crate::changes::slot_place;
 use crate::changes::unit_place;
+use crate::counting::drops_rounds;
 use board::is_sound;
+use board::no_round;
 use rules::BATCH;
 use rules::Batch;
 use rules::Board;
+use rules::Counts;
 use rules::Ran;
 use rules::StepRecord;
 ghost use mathlib.Core.Path.{_≡_};
@@ -14,6 +17,7 @@ ghost use Prim.Native.Nat.{min};
 ghost use lib.Dec.{eqb};
 ghost use lib.ListN.{take};
 ghost use Rattle.rules.specs.Facts.{oneIf};
+ghost use Rattle.rules.specs.Lists.{taking};
 ghost use Rattle.rules.specs.Guarantee.{Carries};
 ghost use Rattle.rules.specs.Runs.{batchMost, batch, batchSteps};
 ghost use Rattle.rules.specs.declared.Ran.the-variants.{Zeros, Refused};
@@ -53,7 +57,7 @@ fn ran_on(sound: bool, zeros: usize) -> Ran
 // The first `count` steps, or all of them where `count` is larger. The board is stored into where it lies, so no step copies it.
 pub fn run_batch(mut b: Board, steps: [StepRecord; BATCH], count: usize) -> Batch
     ensures { λ r. ⌜ r ≡ batch b (take count steps) ⌝ }
-    ensures carries { λ r. ⌜ Carries b (batchSteps b (take count steps)) (r .board) ⌝ }
+    ensures carries { λ r. ⌜ Carries b (taking (batchSteps b (take count steps))) (r .board) ⌝ }
 {
     let sound = is_sound(b);
     let n = turns(sound, count);
@@ -67,15 +71,25 @@ pub fn run_batch(mut b: Board, steps: [StepRecord; BATCH], count: usize) -> Batc
         let u = unit_place(r, y.to);
         let x = b.units[u];
         let p = b.parents[u];
-        let c = change_at(true, b.n, b.m, b.debt, b.delay, r, x, p, y);
+        let k = Counts {
+            created: b.created[u],
+            processed: b.processed[u],
+        };
+        let c = change_at(true, b.n, b.m, b.debt, b.delay, r, x, p, y, k);
         answers[i] = c.answer;
         debts[i] = c.debt;
         zeros += accepted(c.answer);
         let unit = c.unit;
         let slot = c.slot;
+        let counts = c.counts;
         b.units[u] = unit;
         b.slots[s] = slot;
+        b.created[u] = counts.created;
+        b.processed[u] = counts.processed;
         b.debt = c.debt;
+        if drops_rounds(c.answer, r.kind) {
+            b.rounds = no_round();
+        }
     }
     Batch {
         ran: ran_on(sound, zeros),

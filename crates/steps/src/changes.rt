@@ -1,20 +1,23 @@
 // What a step changes, from the records at its places alone. The step and the batch, which have the board, read the records and store the change.
 use crate::action;
+use crate::counting::counted;
 use crate::places::clamped;
 use crate::places::place_refusal;
 use crate::places::slot_of;
 use crate::places::unit_of;
 use crate::records::record_rule;
 use rules::Change;
+use rules::Counts;
 use rules::Effect;
 use rules::Slot;
 use rules::StepRecord;
 use rules::UnitRecord;
 ghost use mathlib.Core.Path.{_≡_};
 ghost use mathlib.Core.Bool.{true, cond};
+ghost use Prim.Native.Nat.{_+_, _<_, _^_};
 ghost use lib.Dec.{eqb};
 ghost use Rattle.rules.specs.Actions.{actionOf};
-ghost use Rattle.rules.specs.Steps.{changeOf};
+ghost use Rattle.rules.specs.Effects.{changeOf};
 ghost use Rattle.rules.specs.declared.Effect.the-variants.{Refused};
 ghost use Rattle.steps.specs.WeightsFit.{WeightsFit};
 ghost use Rattle.steps.specs.Changing.{slotPlace, unitPlace, changeAt};
@@ -42,40 +45,44 @@ fn unless_refused(k: u16, e: Effect) -> Effect
     Effect::Refused(k)
 }
 
-// What an effect leaves of the unit x, the slot y and the debt.
-fn change_of(e: Effect, x: UnitRecord, y: Slot, debt: u64) -> Change
-    ensures { λ c. ⌜ c ≡ changeOf e x y debt ⌝ }
+// What an effect leaves of the unit x, the slot y, the debt and the unit's counts; those of an accepted step are given.
+fn change_of(e: Effect, x: UnitRecord, y: Slot, debt: u64, k: Counts, counts: Counts) -> Change
+    ensures { λ c. ⌜ c ≡ changeOf e x y debt k counts ⌝ }
 {
     match e {
-        Effect::Refused(k) => Change {
-            answer: k,
+        Effect::Refused(j) => Change {
+            answer: j,
             debt,
             unit: x,
             slot: y,
+            counts: k,
         },
         Effect::OnUnit(z, debt) => Change {
             answer: 0,
             debt,
             unit: z,
             slot: y,
+            counts,
         },
         Effect::OnSlot(z, debt) => Change {
             answer: 0,
             debt,
             unit: x,
             slot: z,
+            counts,
         },
         Effect::OnBoth(unit, slot, debt) => Change {
             answer: 0,
             debt,
             unit,
             slot,
+            counts,
         },
     }
 }
 
-// The change that a step makes to the unit x, whose parent is p, and to the slot y, on a board with n units and m slots. It is known
-// whether the board is sound: one that is not refuses the step.
+// The change that a step makes to the unit x, whose parent is p and whose counts are k, and to the slot y, on a board with n units and
+// m slots. It is known whether the board is sound: one that is not refuses the step.
 pub(crate) fn change_at(
     sound: bool,
     n: u16,
@@ -86,9 +93,10 @@ pub(crate) fn change_at(
     x: UnitRecord,
     p: u16,
     y: Slot,
+    k: Counts,
 ) -> Change
-    requires { ⌜ (sound ≡ true → WeightsFit debt x y (actionOf (r .kind))) ⌝ }
-    ensures { λ c. ⌜ c ≡ changeAt sound n m debt delay r x p y ⌝ }
+    requires { ⌜ (sound ≡ true → WeightsFit debt x y (actionOf (r .kind)) × (k .processed + 1 < 2 ^ 64)) ⌝ }
+    ensures { λ c. ⌜ c ≡ changeAt sound n m debt delay r x p y k ⌝ }
 {
     if !sound {
         return Change {
@@ -96,10 +104,11 @@ pub(crate) fn change_at(
             debt,
             unit: x,
             slot: y,
+            counts: k,
         };
     }
     let a = action(r.kind);
-    let k = place_refusal(n, m, r, a);
-    let e = unless_refused(k, record_rule(debt, delay, r, x, p, y, a));
-    change_of(e, x, y, debt)
+    let j = place_refusal(n, m, r, a);
+    let e = unless_refused(j, record_rule(debt, delay, r, x, p, y, k.created, a));
+    change_of(e, x, y, debt, k, counted(k, y, r.kind))
 }

@@ -3,7 +3,7 @@ ghost use mathlib.Core.Path.{_≡_};
 ghost use Prim.Native.Nat.{_+_, _<_, _≤_, _^_};
 ghost use Rattle.rules.specs.Facts.{judge};
 ghost use Rattle.rules.specs.Words.{ceiling};
-ghost use Rattle.rules.specs.Steps.{deliverChecks, worked, returned, returnEffect, deliverEffect};
+ghost use Rattle.rules.specs.Effects.{deliverChecks, worked, returned, returnEffect, deliverEffect};
 ghost use Rattle.rules.specs.declared.Effect.the-variants.{Refused};
 use crate::made::blank_slot;
 use crate::made::waiting_with;

@@ -1,6 +1,7 @@
 // A step by value; in `lent` a step and a run on what is lent, in `batch` a run by value.
 mod batch;
 mod changes;
+mod counting;
 mod delivering;
 mod lent;
 mod made;
@@ -11,15 +12,18 @@ mod resting;
 mod sending;
 
 use board::is_sound;
+use board::no_round;
 use changes::change_at;
 use changes::slot_place;
 use changes::unit_place;
+use counting::drops_rounds;
 pub use lent::RanOn;
 pub use lent::run;
 pub use lent::run_list;
 pub use lent::step_lent;
 use rules::Action;
 use rules::Board;
+use rules::Counts;
 use rules::Outcome;
 use rules::StepRecord;
 ghost use mathlib.Core.Path.{_≡_};
@@ -56,12 +60,22 @@ pub(crate) fn acted(mut b: Board, r: StepRecord, tested: bool) -> Outcome
     let u = unit_place(r, y.to);
     let x = b.units[u];
     let p = b.parents[u];
-    let c = change_at(tested, b.n, b.m, b.debt, b.delay, r, x, p, y);
+    let k = Counts {
+        created: b.created[u],
+        processed: b.processed[u],
+    };
+    let c = change_at(tested, b.n, b.m, b.debt, b.delay, r, x, p, y, k);
     let unit = c.unit;
     let slot = c.slot;
+    let counts = c.counts;
     b.units[u] = unit;
     b.slots[s] = slot;
+    b.created[u] = counts.created;
+    b.processed[u] = counts.processed;
     b.debt = c.debt;
+    if drops_rounds(c.answer, r.kind) {
+        b.rounds = no_round();
+    }
     Outcome {
         board: b,
         answer: c.answer,

@@ -1,7 +1,7 @@
 // The records that the steps make: messages, blank entries, a waiting unit.
 ghost use mathlib.Core.Path.{_≡_};
 ghost use Rattle.rules.specs.Words.{blankUnit, blankSlot};
-ghost use Rattle.rules.specs.Steps.{message, waitingWith};
+ghost use Rattle.rules.specs.Effects.{message, waitingWith};
 use rules::Kind;
 use rules::Slot;
 use rules::State;

@@ -3,7 +3,7 @@ ghost use mathlib.Core.Path.{_≡_};
 ghost use Prim.Native.Nat.{_+_, _<_, _≤_, _^_};
 ghost use Rattle.rules.specs.Facts.{judge};
 ghost use Rattle.rules.specs.Words.{grant, ceiling};
-ghost use Rattle.rules.specs.Steps.{message, requestChecks, requestEffect, grantFits, supplied};
+ghost use Rattle.rules.specs.Effects.{message, requestChecks, requestEffect, grantFits, supplied};
 ghost use Rattle.rules.specs.declared.Effect.the-variants.{Refused, OnSlot};
 ghost use Rattle.rules.specs.declared.Kind.the-variants.{Request, Supply};
 use crate::made::message;

@@ -2,7 +2,7 @@
 ghost use mathlib.Core.Path.{_≡_};
 ghost use Prim.Native.Nat.{_≤_};
 ghost use Rattle.rules.specs.Facts.{judge};
-ghost use Rattle.rules.specs.Steps.{restChecks, restEffect, tickChecks, tickEffect, releaseChecks, releaseEffect};
+ghost use Rattle.rules.specs.Effects.{restChecks, restEffect, tickChecks, tickEffect, releaseChecks, releaseEffect};
 ghost use Rattle.rules.specs.declared.Effect.the-variants.{Refused};
 use crate::made::blank_unit;
 use crate::made::message;

@@ -1,21 +1,25 @@
 // Weight goes out: the start, and work sent with a share of a unit's weight.
 ghost use mathlib.Core.Path.{_≡_};
 ghost use Rattle.rules.specs.Facts.{judge};
-ghost use Rattle.rules.specs.Steps.{startChecks, startEffect, sendChecks, sendEffect};
+ghost use Rattle.rules.specs.Effects.{startChecks, startEffect, sendChecks, sendEffect};
 ghost use Rattle.rules.specs.declared.Effect.the-variants.{Refused};
 use crate::made::message;
 use rules::Effect;
+use rules::FULL;
 use rules::GRANT;
 use rules::Kind;
 use rules::Slot;
 use rules::State;
 use rules::UnitRecord;
 
-pub(crate) fn start(debt: u64) -> Effect
-    ensures { λ e. ⌜ e ≡ judge Refused (startChecks debt) startEffect ⌝ }
+pub(crate) fn start(debt: u64, made: u32) -> Effect
+    ensures { λ e. ⌜ e ≡ judge Refused (startChecks debt made) startEffect ⌝ }
 {
     if debt != 0 {
         return Effect::Refused(37);
+    }
+    if made >= FULL {
+        return Effect::Refused(44);
     }
     Effect::OnUnit(
         UnitRecord {
@@ -28,8 +32,8 @@ pub(crate) fn start(debt: u64) -> Effect
     )
 }
 
-pub(crate) fn send(debt: u64, u: u16, v: u16, x: UnitRecord, y: Slot) -> Effect
-    ensures { λ e. ⌜ e ≡ judge Refused (sendChecks x y) (sendEffect debt u v x) ⌝ }
+pub(crate) fn send(debt: u64, u: u16, v: u16, x: UnitRecord, y: Slot, made: u32) -> Effect
+    ensures { λ e. ⌜ e ≡ judge Refused (sendChecks x y made) (sendEffect debt u v x) ⌝ }
 {
     let state = x.state;
     let active = state.is_active();
@@ -47,6 +51,9 @@ pub(crate) fn send(debt: u64, u: u16, v: u16, x: UnitRecord, y: Slot) -> Effect
     }
     if !empty {
         return Effect::Refused(34);
+    }
+    if made >= FULL {
+        return Effect::Refused(44);
     }
     let s = x.share();
     let kept = s.unit;

@@ -1,7 +1,8 @@
-//! The board: unit records, slots and the debt; opening, soundness, depth
-//! and finished.
+//! The board: unit records, slots, the debt and the counts; opening,
+//! soundness, depth and finished.
 
 use crate::refusal::*;
+use crate::rounds::Rounds;
 
 /// The most units a board can use.
 pub const UNITS: usize = 64;
@@ -78,6 +79,11 @@ pub struct Board {
     pub units: [Unit; UNITS],
     pub slots: [Slot; SLOTS],
     pub debt: u64,
+    /// Work that each unit created: its accepted sends and starts (M-105).
+    pub created: [u32; UNITS],
+    /// Work that each unit processed: deliveries of work to it, and its starts.
+    pub processed: [u64; UNITS],
+    pub rounds: Rounds,
 }
 
 impl Board {
@@ -90,6 +96,9 @@ impl Board {
         units: [Unit::BLANK; UNITS],
         slots: [Slot::BLANK; SLOTS],
         debt: 0,
+        created: [0; UNITS],
+        processed: [0; UNITS],
+        rounds: Rounds::BLANK,
     };
 
     /// Opens a board with `m` slots, delay `d` and the parents of units 1 on.
@@ -113,7 +122,8 @@ impl Board {
         (board, ACCEPTED)
     }
 
-    /// S1 to S6, of any board, whatever stands in its fields.
+    /// S1 to S6, and what M-105 asks of counts and rounds, of any board, whatever
+    /// stands in its fields.
     pub fn is_sound(&self) -> bool {
         self.ranges_hold()
             && self.units_hold()
@@ -121,6 +131,8 @@ impl Board {
             && self.suspensions_hold()
             && self.weight() == u128::from(self.debt)
             && self.debt <= DEBT_LIMIT
+            && self.counts_hold()
+            && self.rounds_hold()
     }
 
     /// S1. A parent entry from n on is part of a blank entry, hence 0.

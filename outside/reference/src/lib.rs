@@ -1,10 +1,12 @@
 //! The weight board after the scope document, written plainly so that another
 //! implementation can be compared with it.
 //!
-//! * [`Board`]: opening, soundness, depth, finished, the seven steps, a run.
+//! * [`Board`]: opening, soundness, depth, finished, the seven steps, a run, the
+//!   counting rounds.
 //! * [`read_line`], [`field`], [`is_padded`], [`read_number`], [`write_step`]:
 //!   the script.
 //! * [`list`]: the listing of a whole script, bytes to bytes.
+//! * [`tell_rows`]: what a program is to tell for a file of cases.
 //!
 //! Every refusal is the number that the scope document or a change request
 //! gives it, see [`refusal`].
@@ -12,6 +14,8 @@
 mod board;
 mod listing;
 pub mod refusal;
+mod rounds;
+mod rows;
 mod script;
 mod step;
 
@@ -22,6 +26,8 @@ pub use listing::{
     list, list_into, listing_length, script_lines, walk, write_heading, write_listing_line,
     HEADING, SCRIPT_LIMIT,
 };
+pub use rounds::{Finding, Round, Rounds};
+pub use rows::tell_rows;
 pub use script::{
     field, field_count, is_padded, read_line, read_number, write_step, Record, LINE_LIMIT, WORDS,
 };

@@ -34,3 +34,6 @@ pub const NOT_WAITING: Refusal = 38;
 pub const COUNTDOWN_ZERO: Refusal = 39;
 pub const COUNTDOWN_ABOVE_ZERO: Refusal = 40;
 pub const WEIGHT_ABOVE_ONE: Refusal = 41;
+pub const ACTIVE_AT_VISIT: Refusal = 42;
+pub const NOTHING_TO_VISIT: Refusal = 43;
+pub const CREATED_FULL: Refusal = 44;

@@ -2,6 +2,7 @@
 
 use crate::board::{Board, Kind, Slot, State, Unit, DEBT_LIMIT, FULL_WEIGHT};
 use crate::refusal::*;
+use crate::rounds::Rounds;
 
 /// A step record. Fields that its kind has no letter for are not read.
 #[derive(Clone, Copy, Debug, Default, PartialEq, Eq)]
@@ -121,14 +122,18 @@ impl Board {
 
     // Each step makes all its checks, in the order of the scope document, for a
     // send in that of M-103, before it changes anything: a refused step leaves the
-    // board as it was.
+    // board as it was. A created count that is full comes last (M-105). A processed
+    // count has no such check: soundness holds it below 2^38.
 
-    /// [13, 37]
+    /// A start drops the rounds, without a verdict. [13, 37, 44]
     fn start(&mut self, u: u16) -> Result<(), Refusal> {
         let u = self.unit_index(u)?;
         if self.debt > 0 {
             return Err(DEBT_ABOVE_ZERO);
         }
+        self.created[u] = self.one_more_created(u)?;
+        self.processed[u] += 1;
+        self.rounds = Rounds::BLANK;
         self.units[u].state = State::Active;
         self.units[u].weight = FULL_WEIGHT;
         self.debt = FULL_WEIGHT;
@@ -136,7 +141,7 @@ impl Board {
     }
 
     /// The scope document has 34 before 33; where both hold, 33 is now the
-    /// answer (M-103). [13 for u or v, 14, 31, 32, 33, 34]
+    /// answer (M-103). [13 for u or v, 14, 31, 32, 33, 34, 44]
     fn send(&mut self, u: u16, v: u16, s: u16) -> Result<(), Refusal> {
         let unit = self.unit_index(u)?;
         self.unit_index(v)?;
@@ -144,6 +149,7 @@ impl Board {
         self.must_be_ready(unit)?;
         let given = share(self.units[unit].weight)?;
         self.must_be_empty(slot)?;
+        self.created[unit] = self.one_more_created(unit)?;
         self.units[unit].weight -= given;
         self.slots[slot] = Slot {
             kind: Kind::Work,
@@ -184,6 +190,7 @@ impl Board {
                 receiver.weight += message.weight;
                 receiver.state = State::Active;
                 receiver.countdown = 0;
+                self.processed[usize::from(message.to)] += 1;
             }
             Kind::Return if message.to == 0 => self.debt -= message.weight,
             Kind::Return => {
@@ -291,5 +298,9 @@ impl Board {
         } else {
             Err(SLOT_FILLED)
         }
+    }
+    /// [44]
+    fn one_more_created(&self, unit: usize) -> Result<u32, Refusal> {
+        self.created[unit].checked_add(1).ok_or(CREATED_FULL)
     }
 }

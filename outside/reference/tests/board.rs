@@ -87,12 +87,16 @@ fn depths() {
     assert_eq!(Board::BLANK.depth(9), Err(UNSOUND));
 }
 
-/// Damages a board in one place, and pays for changed weight in the debt, so
-/// that no other condition than the damaged one can fail.
+/// Damages a board in one place, and pays for changed weight in the debt and for
+/// changed work in unit 1's created count, so that no other condition than the
+/// damaged one can fail.
 fn damaged(damage: impl FnOnce(&mut Board)) -> Board {
     let mut board = busy();
+    let before = board.work_under_way();
     damage(&mut board);
     board.debt = board.weight() as u64;
+    let more = board.work_under_way().wrapping_sub(before);
+    board.created[1] = board.created[1].wrapping_add(more as u32);
     board
 }
 

@@ -10,6 +10,14 @@ fn open(m: u16, d: u16, parents: &[u16]) -> Board {
     board
 }
 
+/// The board with these counts: a unit, what it created, what it processed.
+fn counted(mut board: Board, counts: &[(usize, u32, u64)]) -> Board {
+    for &(unit, created, processed) in counts {
+        (board.created[unit], board.processed[unit]) = (created, processed);
+    }
+    board
+}
+
 fn take(board: &mut Board, steps: &[Step]) {
     for &step in steps {
         assert_eq!(board.step_checked(step), ACCEPTED, "{step:?}");
@@ -561,11 +569,13 @@ fn returns() {
     assert_eq!(board.debt, 1 << 24);
     take(&mut board, &[Step::deliver(0)]);
     assert_eq!(board.debt, 0);
-    assert_eq!(board, open(2, 2, &[0, 1, 2]));
+    let finished = counted(open(2, 2, &[0, 1, 2]), &[(2, 0, 1), (3, 2, 1)]);
+    assert_eq!(board, finished);
 }
 
 /// The chain 0, 1, 2 with M = 2. Unit 1 waits with 16,384 and the countdown,
-/// slot 0 is the return to it with the rest of 2^24, all else is blank.
+/// slot 0 is the return to it with the rest of 2^24, all else is blank but for
+/// the counts.
 fn return_to_a_waiting_unit(d: u16, countdown: u16) -> Board {
     let mut board = open(2, d, &[0, 1]);
     take(
@@ -584,6 +594,11 @@ fn return_to_a_waiting_unit(d: u16, countdown: u16) -> Board {
     assert_eq!(board.units[1], waiting(16_384, countdown));
     assert_eq!(board.slots[0], returned(2, 1, 16_760_832));
     board
+}
+
+/// The same board as it was opened, with the counts of that start and that send.
+fn opened_and_counted(d: u16) -> Board {
+    counted(open(2, d, &[0, 1]), &[(1, 0, 1), (2, 2, 1)])
 }
 
 /// A delay and a countdown of it.
@@ -609,7 +624,7 @@ fn return_into_a_waiting_unit() {
         let mut board = return_to_a_waiting_unit(d, countdown);
         take(&mut board, &[Step::deliver(0)]);
         // The countdown stands (M-104).
-        let mut expected = open(2, d, &[0, 1]);
+        let mut expected = opened_and_counted(d);
         expected.units[1] = waiting(16_777_216, countdown);
         expected.debt = 16_777_216;
         assert_eq!(board, expected, "d = {d}, countdown {countdown}");
@@ -630,12 +645,12 @@ fn release_after_a_return() {
         }
         refuse(&board, Step::tick(1), COUNTDOWN_ZERO);
         take(&mut board, &[Step::release(1, 1)]);
-        let mut expected = open(2, d, &[0, 1]);
+        let mut expected = opened_and_counted(d);
         expected.slots[1] = returned(1, 0, 16_777_216);
         expected.debt = 16_777_216;
         assert_eq!(board, expected, "d = {d}, countdown {countdown}");
         take(&mut board, &[Step::deliver(1)]);
-        assert_eq!(board, open(2, d, &[0, 1]));
+        assert_eq!(board, opened_and_counted(d));
     }
 }
 
@@ -659,7 +674,7 @@ fn return_into_an_idle_unit() {
         take(&mut board, &[Step::start(2), Step::rest(2)]);
         ticks(&mut board, 2, d);
         take(&mut board, &[Step::release(2, 0), Step::deliver(0)]);
-        let mut expected = open(1, d, &[0, 1]);
+        let mut expected = counted(open(1, d, &[0, 1]), &[(2, 1, 1)]);
         expected.units[1] = waiting(16_777_216, d);
         expected.debt = 16_777_216;
         assert_eq!(board, expected, "d = {d}");
@@ -683,7 +698,7 @@ fn return_into_an_active_unit() {
         take(&mut board, &[Step::release(2, 0), Step::deliver(0)]);
         let mut expected = open(2, d, &[0, 1]);
         take(&mut expected, &[Step::start(1)]);
-        assert_eq!(board, expected);
+        assert_eq!(board, counted(expected, &[(1, 2, 1), (2, 0, 1)]));
         let active = Unit {
             state: State::Active,
             weight: 16_777_216,
@@ -851,7 +866,7 @@ fn one_unit_finishes_on_rest() {
     assert_eq!(board.finished(), Ok(false));
     take(&mut board, &[Step::rest(0)]);
     assert_eq!(board.finished(), Ok(true));
-    assert_eq!(board, open(1, 255, &[]));
+    assert_eq!(board, counted(open(1, 255, &[]), &[(0, 1, 1)]));
 }
 
 #[test]

@@ -8,8 +8,8 @@ const SCRIPT_LIMIT: usize = 65_535;
 
 /// The refusals of a first line or of a whole script.
 const OPENING: [u64; 9] = [11, 12, 21, 22, 23, 24, 25, 26, 28];
-/// The answers of the later lines. 36 needs more grants than a script has
-/// room for; 11, 12 and 26 are never theirs.
+/// The answers of the later lines. 36 needs more grants than a script has room
+/// for, and 44 more sends and starts; 11, 12 and 26 are never theirs.
 const LATER: [u64; 19] = [
     0, 13, 14, 21, 22, 23, 24, 25, 28, 31, 32, 33, 34, 35, 37, 38, 39, 40, 41,
 ];

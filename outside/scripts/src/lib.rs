@@ -4,13 +4,16 @@
 //! * [`check_listing`]: what holds of every listing, whoever wrote it.
 //! * [`Statistics`]: what a set of scripts has met, to see that the scripts
 //!   walk the state space and meet every refusal that a script can meet.
+//! * [`EventList`]: a list of steps, beginnings and visits. A script has no words
+//!   for the last two.
 //!
 //! Steps are chosen by simulating with the reference board, so that most are
-//! accepted. Refusal 36 is out of reach: it needs 65,536 grants, and a script
-//! of 65,535 bytes has no room for as many lines.
+//! accepted. Refusals 36 and 44 are out of reach: they need 65,536 grants and 2^32
+//! sends or starts, and a script of 65,535 bytes has no room for as many lines.
 
 mod check;
 mod damage;
+mod events;
 mod forms;
 mod random;
 mod reasons;
@@ -18,6 +21,7 @@ mod statistics;
 mod walker;
 
 pub use check::check_listing;
+pub use events::{Event, EventList};
 pub use random::Random;
 pub use statistics::{Statistics, REACHABLE};
 

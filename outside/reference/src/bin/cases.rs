@@ -8,7 +8,9 @@
 //! below. Ranges written a..=b include b. Every call gets a copy of the board.
 //!
 //! `cases boards` prints the first four tables in this order, and `cases calls`
-//! the last three, each behind a line with its name.
+//! the last three, each behind a line with its name. `cases rows` reads cases from
+//! standard input and prints what is to be told for them; their format stands at
+//! the top of `rows.rs`.
 //!
 //! # damaged, balanced, suspended
 //!
@@ -36,7 +38,10 @@
 //!
 //! In `balanced` and `suspended` the debt is set after that to the sum of all
 //! 64 unit weights and all 256 slot weights, so that S5 does not hide the
-//! other conditions.
+//! other conditions. And unit 0's created count is set so that the created
+//! counts of all 64 units sum to their processed counts and the number of work
+//! slots among all 256, added exactly, so that this equality does not hide them
+//! either; what does not fit in 32 bits is taken modulo 2^32.
 //!
 //! Base board of `damaged` and `balanced`: opened with M = 4, d = 2, parents
 //! 0, 0, 1, 2, then start 0, send 0 1 0, deliver 0, send 0 2 1, deliver 1,
@@ -61,8 +66,8 @@
 //! Boards: all have n = 3, M = 3, d = 0, parents 0, and are blank but for what
 //! is named. Active units have countdown 0. R(w): unit 1 active of weight w,
 //! unit 2 active of weight 1 and suspended, slot 0 a request from 2 to 0 of
-//! weight 0. W(w, x): unit 1 active of weight w, slot 0 work from 1 to 2 of
-//! weight x. "Supply to 2" is from 0 to 2 with weight 2^24.
+//! weight 0. W(w, x): unit 1 active of weight w with created count 1, slot 0
+//! work from 1 to 2 of weight x. "Supply to 2" is from 0 to 2 with weight 2^24.
 //! - 0: R(2^40 - 2^24 - 1), debt 2^40 - 2^24
 //! - 1: R(2^40 - 2^24), debt 2^40 - 2^24 + 1
 //! - 2: R(2^40 - 1), debt 2^40
@@ -129,8 +134,8 @@
 
 use reference::refusal::{Refusal, ACCEPTED, NO_ROOM, UNSOUND};
 use reference::{
-    list, write_heading, write_listing_line, write_step, Board, Kind, Slot, State, Step, Unit,
-    DEBT_LIMIT, FULL_WEIGHT, HEADING,
+    list, tell_rows, write_heading, write_listing_line, write_step, Board, Kind, Slot, State, Step,
+    Unit, DEBT_LIMIT, FULL_WEIGHT, HEADING,
 };
 use std::io::{self, Write};
 use std::process::ExitCode;
@@ -143,11 +148,12 @@ fn main() -> ExitCode {
     let lines = match word.as_str() {
         "boards" => named(&BOARDS),
         "calls" => named(&CALLS),
+        "rows" => rows(),
         name => table(name),
     };
     let Some(lines) = lines else {
         let tables = [&BOARDS[..], &CALLS].concat().join(" | ");
-        eprintln!("usage: cases [{tables} | boards | calls]");
+        eprintln!("usage: cases [{tables} | boards | calls | rows]");
         return ExitCode::FAILURE;
     };
     match io::stdout().lock().write_all(lines.as_bytes()) {
@@ -173,6 +179,18 @@ fn table(name: &str) -> Option<String> {
 fn named(names: &[&str]) -> Option<String> {
     let part = |name: &&str| Some(format!("{name}\n{}", table(name)?));
     names.iter().map(part).collect()
+}
+
+/// What is to be told for the rows of standard input.
+fn rows() -> Option<String> {
+    let rows = io::read_to_string(io::stdin()).ok()?;
+    match tell_rows(&rows) {
+        Ok(told) => Some(told),
+        Err(line) => {
+            eprintln!("cases: no case: {line}");
+            None
+        }
+    }
 }
 
 fn opened(steps: impl IntoIterator<Item = Step>) -> Board {
@@ -235,6 +253,10 @@ fn damaged(base: &Board, balanced: bool) -> String {
     for (index, mut board) in damages(base, !balanced).into_iter().enumerate() {
         if balanced {
             board.debt = u64::try_from(board.weight()).expect("damages keep weights small");
+            let others = board.created_total() - u128::from(board.created[0]);
+            let whole = board.processed_total() + board.work_under_way();
+            // The cast takes it modulo 2^32, below 0 too.
+            board.created[0] = whole.wrapping_sub(others) as u32;
         }
         let sound = u16::from(board.is_sound());
         let finished = finished(&board);
@@ -349,6 +371,7 @@ fn limits() -> String {
     };
     let w = |weight, under_way, debt| {
         let mut board = small(weight, debt);
+        board.created[1] = 1;
         board.slots[0] = Slot {
             kind: Kind::Work,
             from: 1,

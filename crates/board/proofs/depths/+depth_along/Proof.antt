@@ -4,8 +4,8 @@ use Prim.Native.Nat.{ℕ, suc, _<_}
 use native.Mathlib.Numerals.{add-one}
 use native.Mathlib.Omega.{arith}
 use lib.ListN.{getD}
-use Rattle.rules.specs.Depths.{depth, depthWithin}
-use Rattle.rules.proofs.DepthLaws.{depth-parent, depth-by-number}
+use Rattle.rules.specs.Sheets.Depths.{depth, depthWithin}
+use Rattle.rules.proofs.Sheets.DepthLaws.{depth-parent, depth-by-number}
 use borrow.Fn.Kinds.{In}
 use borrow.Fn.PlainCycle.{Measures, is, falls, and}
 use Rattle.board.proofs.depths.depth_along.Reads as depth-along

@@ -5,10 +5,12 @@ use Prim.Native.Nat.{suc-le-suc}
 use native.Mathlib.Omega.{arith}
 use borrow.Author.Needs.{needs}
 use borrow.Author.Tests.{not-true, not-false, le-leb, lt-leb}
+use Rattle.rules.specs.Boards.{view}
 use Rattle.rules.specs.Sound.{Sound, sound}
 use Rattle.rules.specs.Depths.{depthAnswer}
 use Rattle.rules.specs.declared.Depth.the-variants.{Deep}
-use Rattle.rules.proofs.SoundLaws.{sound-claims, parent-below}
+use Rattle.rules.proofs.SoundLaws.{sound-claims}
+use Rattle.rules.proofs.Sheets.SoundLaws.{parent-below}
 use Rattle.board.proofs.depths.depth_of.Statement.{statement}
 use Rattle.board.proofs.depths.depth_of.Tie as tie
 
@@ -30,7 +32,7 @@ depth-along-requires : tie.Need-depth-along-requires
 depth-along-requires c κs =
     let at = c .before .before .before in
     let h : Sound (at .before .before .args .b) = sound-claims (at .before .before .args .b) (is-so at) in
-    (omega (arith, h .s1-sizes), λ i p q. parent-below (at .before .before .args .b) h i p (omega arith))
+    (omega (arith, h .sheet .s1-sizes), λ i p q. parent-below (view (at .before .before .args .b)) (h .sheet) i p (omega arith))
 
 returns-3 : tie.Need-returns-3
 unfolding depthAnswer

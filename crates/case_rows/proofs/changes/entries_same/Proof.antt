@@ -5,10 +5,10 @@ use Rattle.case_rows.proofs.changes.entries_same.Statement.{statement}
 use Rattle.case_rows.proofs.changes.entries_same.Tie as tie
 
 abbrev Inv-loop : tie.InvT-loop
-Inv-loop a b all₀ i₀ all i = i ≤ 384
+Inv-loop a b all₀ i₀ all i = i ≤ 513
 
 abbrev μ-loop : tie.MeasureT-loop
-μ-loop a b all₀ i₀ all i = 384 - i
+μ-loop a b all₀ i₀ all i = 513 - i
 
 loop-holds : tie.Need-loop-holds Inv-loop μ-loop
 loop-holds c = search needs

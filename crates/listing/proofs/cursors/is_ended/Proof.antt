@@ -3,7 +3,6 @@ use mathlib.Core.Path.{sym, ap}
 use mathlib.Core.Bool.{Bool, _&&_}
 use lib.ListN.{length}
 use lib.Dec.{leb}
-use borrow.Author.Needs.{needs}
 use Rattle.listing.proofs.cursors.is_ended.Statement.{statement}
 use Rattle.listing.proofs.cursors.is_ended.Tie as tie
 
@@ -11,7 +10,7 @@ returns : tie.Need-returns
 returns c = ap (λ (t : Bool). t && leb (length (c .before .before .args .script .now)) (c .before .before .args .c .at)) (sym (c .before .if1 .taken))
 
 returns-2 : tie.Need-returns-2
-returns-2 c = search needs
+returns-2 c = ap (λ (t : Bool). t && leb (length (c .before .args .script .now)) (c .before .args .c .at)) (sym (c .if1 .left))
 
 pub is-ended-spec : {M : Type 1} → statement M
 is-ended-spec = tie.close (tie.spec returns returns-2)

@@ -1,5 +1,6 @@
 -- `run_batch` meets its contract: what is left from each turn on gives what the whole gives, and a change stored is the step.
 use mathlib.Core.Path.{_≡_, refl, sym, ap, subst, _∙_}
+use mathlib.Core.Logic.{⊎-elim}
 use mathlib.Core.List.{List}
 use Prim.Native.Nat.{ℕ, _≤_, _<_, _-_}
 use native.Mathlib.Omega.{arith}
@@ -10,16 +11,19 @@ use Rattle.rules.specs.Sound.{Sound}
 use Rattle.rules.specs.declared.Board.{Board}
 use Rattle.rules.specs.declared.StepRecord.{StepRecord}
 use Rattle.rules.specs.declared.Batch.{Batch}
-use Rattle.rules.specs.Steps.{step, stored}
+use Rattle.rules.specs.Steps.{step}
+use Rattle.rules.specs.Actions.{actionOf}
+use Rattle.rules.specs.Sheets.Steps.{stored}
+use Rattle.rules.specs.Boards.{view, boardOf}
 use Rattle.rules.specs.Runs.{batchMost, batch}
 use Rattle.rules.specs.declared.Outcome.{Outcome}
 use Rattle.rules.specs.declared.Ran.{Ran}
 use Rattle.rules.proofs.SoundLaws.{sound-claims}
-use Rattle.rules.proofs.Accepted.{step-sound}
-use Rattle.rules.proofs.ListLaws.{step-keeps-sound}
+use Rattle.rules.proofs.Views.{step-sound}
+use Rattle.rules.proofs.EventSound.{step-keeps-sound}
 use Rattle.board.proofs.SlotLaws.{one-at-most}
 use Rattle.steps.specs.NoStep.{noStep}
-use Rattle.steps.proofs.Changing.{place-weights, stored-step}
+use Rattle.steps.proofs.Changing.{place-weights, storedOn, stored-step, rounds-dropped, rounds-kept}
 use Rattle.steps.proofs.BatchLaws.{filled, filled-turn, filled-end, unlessUnsound, turns-few, turns-sound, filled-batch, batch-carries}
 use Rattle.steps.proofs.batch.run_batch.Statement.{statement}
 use Rattle.steps.proofs.batch.run_batch.Tie as tie
@@ -84,6 +88,18 @@ mul-p c = search needs
 element-copy-out-p : tie.Need-element-copy-out-p Inv-loop μ-loop
 element-copy-out-p c = search needs
 
+mul-t25 : tie.Need-mul-t25 Inv-loop μ-loop
+mul-t25 c = search needs
+
+element-copy-out-t40 : tie.Need-element-copy-out-t40 Inv-loop μ-loop
+element-copy-out-t40 c = search needs
+
+mul-change-at : tie.Need-mul-change-at Inv-loop μ-loop
+mul-change-at c = search needs
+
+element-copy-out-change-at : tie.Need-element-copy-out-change-at Inv-loop μ-loop
+element-copy-out-change-at c = search needs
+
 -- from where the unit's place is known back to the slot's place, to the loop's head and to the start
 abbrev slot-place : tie.After-unit-place Inv-loop μ-loop → tie.After-slot-place Inv-loop μ-loop
 slot-place d = d .before .before
@@ -107,15 +123,15 @@ sure d = at-loop d .loop .inv .is-sound (slot-place d .before .before .loop-test
 
 change-at-requires : tie.Need-change-at-requires Inv-loop μ-loop
 change-at-requires c κs =
-    let d = c .before .before in
-    λ e. place-weights (at-loop d .loop .b) (asked d) (sure d) (d .unit-place .result) (slot-place d .slot-place .result) (slot-place d .slot-place .ensures) (d .unit-place .ensures)
+    let d = c .before .before .before .before in
+    λ e. place-weights (view (at-loop d .loop .b)) (asked d) (sure d .sheet) (d .unit-place .result) (slot-place d .slot-place .result) (slot-place d .slot-place .ensures) (d .unit-place .ensures)
 
 -- the change, stored, is the step
 abbrev unit-place : tie.After-change-at Inv-loop μ-loop → tie.After-unit-place Inv-loop μ-loop
-unit-place g = g .before .before .before
+unit-place g = g .before .before .before .before .before
 
 abbrev outcome : tie.After-change-at Inv-loop μ-loop → Outcome
-outcome g = let d = unit-place g in stored (at-loop d .loop .b) (d .unit-place .result) (slot-place d .slot-place .result) (g .change-at .result)
+outcome g = let d = unit-place g in storedOn (at-loop d .loop .b) (asked d) (d .unit-place .result) (slot-place d .slot-place .result) (g .change-at .result)
 
 stepped : (g : tie.After-change-at Inv-loop μ-loop) → outcome g ≡ step (at-loop (unit-place g) .loop .b) (asked (unit-place g))
 stepped g =
@@ -153,19 +169,56 @@ mul-slot c = search needs
 element-set-from-slot : tie.Need-element-set-from-slot Inv-loop μ-loop
 element-set-from-slot c = search needs
 
+mul-b : tie.Need-mul-b Inv-loop μ-loop
+mul-b c = search needs
+
+element-write-b : tie.Need-element-write-b Inv-loop μ-loop
+element-write-b c = search needs
+
+mul-b-2 : tie.Need-mul-b-2 Inv-loop μ-loop
+mul-b-2 c = search needs
+
+element-write-b-2 : tie.Need-element-write-b-2 Inv-loop μ-loop
+element-write-b-2 c = search needs
+
+drops-rounds-requires : tie.Need-drops-rounds-requires Inv-loop μ-loop
+drops-rounds-requires c κs = search needs
+
+no-round-requires : tie.Need-no-round-requires Inv-loop μ-loop
+no-round-requires c κs = search needs
+
 add-i : tie.Need-add-i Inv-loop μ-loop
 add-i c = search needs
 
 loop-less : tie.Need-loop-less Inv-loop μ-loop
 loop-less c = search needs
 
+-- at the end of a turn: the step counted, the change, and the board that is left, with its rounds as they are then
+abbrev counted-turn : tie.Joined1 Inv-loop μ-loop → tie.After-accepted Inv-loop μ-loop
+counted-turn c = c .before .before .before .before .before
+
+abbrev changed-turn : tie.Joined1 Inv-loop μ-loop → tie.After-change-at Inv-loop μ-loop
+changed-turn c = counted-turn c .before
+
+left : (c : tie.Joined1 Inv-loop μ-loop) → c .if1 .b ≡ outcome (changed-turn c) .board
+left c =
+    let g = changed-turn c in
+    let d = unit-place g in
+    let b = at-loop d .loop .b in
+    let t = c .before .drops-rounds in
+    let sheet = stored (view b) (d .unit-place .result) (slot-place d .slot-place .result) (g .change-at .result) .sheet in
+    ⊎-elim (λ w. w .2 ∙ ap (boardOf sheet) (rounds-dropped (g .change-at .result .answer) (actionOf (asked d .kind)) (b .rounds) (w .1 .result) (t .result) (t .ensures) (w .0 .taken) (w .1 .ensures)))
+    (λ w. w .1 ∙ ap (boardOf sheet) (rounds-kept (g .change-at .result .answer) (actionOf (asked d .kind)) (b .rounds) (t .result) (t .ensures) (w .0 .left)))
+    (c .if1 .came)
+
 loop-again : tie.Need-loop-again Inv-loop μ-loop
 loop-again c =
-    let k = c .before .before in
-    let g = k .before in
+    let k = counted-turn c in
+    let g = changed-turn c in
     let d = unit-place g in
     let h = at-loop d in
-    record {
+    rw (left c)
+    (record {
       few = h .loop .inv .few;
       within = search needs;
       counts = omega (arith, k .accepted .ensures, one-at-most (eqb (g .change-at .result .answer) 0), h .loop .inv .counts);
@@ -173,7 +226,7 @@ loop-again c =
       gives =
           filled-turn (start h .args .t2) (h .before .turns .result) (h .loop .b) (h .loop .zeros) (h .loop .i) (k .accepted .result) (h .loop .answers) (h .loop .debts) (outcome g) (omega (arith, all-there (start h))) (slot-place d .before .before .loop-test .taken) (stepped g) (k .accepted .ensures)
           ∙ h .loop .inv .gives;
-    }
+    })
 
 ran-on-requires : tie.Need-ran-on-requires Inv-loop μ-loop
 ran-on-requires c κs = search needs
@@ -210,6 +263,10 @@ run-batch-spec =
     element-copy-out-x
     mul-p
     element-copy-out-p
+    mul-t25
+    element-copy-out-t40
+    mul-change-at
+    element-copy-out-change-at
     change-at-requires
     mul-answers
     array-write-answers
@@ -221,6 +278,12 @@ run-batch-spec =
     element-set-from-unit
     mul-slot
     element-set-from-slot
+    mul-b
+    element-write-b
+    mul-b-2
+    element-write-b-2
+    drops-rounds-requires
+    no-round-requires
     add-i
     loop-less
     loop-again

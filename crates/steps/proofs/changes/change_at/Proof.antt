@@ -3,12 +3,14 @@ use mathlib.Core.Path.{sym, ap, subst, _∙_}
 use borrow.Author.Needs.{needs}
 use borrow.Author.Tests.{not-true, not-false}
 use Rattle.rules.specs.Facts.{judge}
+use Rattle.rules.specs.Actions.{actionOf}
 use Rattle.rules.specs.Letters.{placeChecks}
-use Rattle.rules.specs.Steps.{recordRule, changeOf}
+use Rattle.rules.specs.Effects.{recordRule, changeOf}
 use Rattle.rules.specs.declared.Action.{Action}
 use Rattle.rules.specs.declared.Effect.{Effect}
 use Rattle.rules.specs.declared.Effect.the-variants.{Refused}
 use Rattle.steps.specs.WeightsFit.{WeightsFit}
+use Rattle.steps.specs.Changing.{countedUp}
 use Rattle.steps.proofs.Clamping.{placed-effect}
 use Rattle.steps.proofs.changes.change_at.Statement.{statement}
 use Rattle.steps.proofs.changes.change_at.Tie as tie
@@ -26,27 +28,35 @@ record-rule-requires : tie.Need-record-rule-requires
 record-rule-requires c κs =
     let d = c .before .before in
     let g = d .before .args in
-    subst (WeightsFit (g .debt) (g .x) (g .y)) (sym (c .before .action .ensures)) (d .before .pre (not-false (g .sound) (d .if1 .left)))
+    subst (WeightsFit (g .debt) (g .x) (g .y)) (sym (c .before .action .ensures)) (d .before .pre (not-false (g .sound) (d .if1 .left)) .0)
 
 unless-refused-requires : tie.Need-unless-refused-requires
 unless-refused-requires c κs = search needs
+
+counted-requires : tie.Need-counted-requires
+counted-requires c κs =
+    let d = c .before .before .before .before in
+    d .before .pre (not-false (d .before .args .sound) (d .if1 .left)) .1
 
 change-of-requires : tie.Need-change-of-requires
 change-of-requires c κs = search needs
 
 returns-2 : tie.Need-returns-2
 returns-2 c =
-    let e = c .before .unless-refused in
-    let k = c .before .before .before .place-refusal in
-    let a = c .before .before .before .before .action in
-    let d = c .before .before .before .before .before in
+    let n = c .before .counted in
+    let e = c .before .before .unless-refused in
+    let rule = c .before .before .before in
+    let j = rule .before .place-refusal in
+    let a = rule .before .before .action in
+    let d = rule .before .before .before in
     let g = d .before .args in
     rw (not-false (g .sound) (d .if1 .left))
     (c .change-of .ensures
-    ∙ ap (λ (f : Effect). changeOf f (g .x) (g .y) (g .debt))
-    (placed-effect (g .n) (g .m) (g .r) (a .result) (k .result) (c .before .before .record-rule .result) (e .result) (k .ensures) (e .ensures)
-    ∙ ap (judge Refused (placeChecks (g .n) (g .m) (g .r) (a .result))) (c .before .before .record-rule .ensures)
-    ∙ ap (λ (b : Action). judge Refused (placeChecks (g .n) (g .m) (g .r) b) (recordRule (g .debt) (g .delay) (g .r) (g .x) (g .p) (g .y) b)) (a .ensures)))
+    ∙ ap (changeOf (e .result) (g .x) (g .y) (g .debt) (g .k)) (n .ensures)
+    ∙ ap (λ (f : Effect). changeOf f (g .x) (g .y) (g .debt) (g .k) (countedUp (g .k) (g .y) (actionOf (g .r .kind))))
+    (placed-effect (g .n) (g .m) (g .r) (a .result) (j .result) (rule .record-rule .result) (e .result) (j .ensures) (e .ensures)
+    ∙ ap (judge Refused (placeChecks (g .n) (g .m) (g .r) (a .result))) (rule .record-rule .ensures)
+    ∙ ap (λ (b : Action). judge Refused (placeChecks (g .n) (g .m) (g .r) b) (recordRule (g .debt) (g .delay) (g .r) (g .x) (g .p) (g .y) (g .k .created) b)) (a .ensures)))
 
 pub change-at-spec : {M : Type 1} → statement M
 change-at-spec =
@@ -57,5 +67,6 @@ change-at-spec =
     place-refusal-requires
     record-rule-requires
     unless-refused-requires
+    counted-requires
     change-of-requires
     returns-2)

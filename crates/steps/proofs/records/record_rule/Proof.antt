@@ -1,5 +1,5 @@
 -- `record_rule` meets its contract, by the action.
-use Rattle.rules.specs.Steps.{recordRule}
+use Rattle.rules.specs.Effects.{recordRule}
 use borrow.Author.Needs.{needs}
 use Rattle.steps.proofs.records.record_rule.Statement.{statement}
 use Rattle.steps.proofs.records.record_rule.Tie as tie

@@ -3,7 +3,7 @@ use mathlib.Core.Path.{_≡_, sym, ap, _∙_}
 use mathlib.Core.Bool.{true}
 use borrow.Author.Tests.{le-leb, lt-leb}
 use Rattle.rules.specs.Words.{isActive}
-use Rattle.rules.specs.Steps.{requestChecks, requestEffect}
+use Rattle.rules.specs.Effects.{requestChecks, requestEffect}
 use Rattle.rules.specs.declared.Effect.the-variants.{Refused, OnBoth}
 use Rattle.rules.specs.declared.Slot.{Slot}
 use Rattle.rules.proofs.FactLaws.{judge-passed}

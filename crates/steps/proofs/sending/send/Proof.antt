@@ -2,10 +2,10 @@
 use mathlib.Core.Path.{_≡_, sym, _∙_}
 use mathlib.Core.Bool.{true, false}
 use borrow.Author.Tests.{le-leb, lt-leb}
-use Prim.Native.Nat.{ℕ}
+use Prim.Native.Nat.{ℕ, suc, _≤_, suc-le-suc}
 use lib.Dec.{leb}
-use Rattle.rules.specs.Words.{isActive, isEmpty}
-use Rattle.rules.specs.Steps.{shared, message, sendChecks, sendEffect}
+use Rattle.rules.specs.Words.{isActive, isEmpty, full}
+use Rattle.rules.specs.Effects.{shared, message, sendChecks, sendEffect}
 use Rattle.rules.specs.declared.Kind.the-variants.{Work}
 use Rattle.rules.specs.declared.Effect.the-variants.{Refused, OnBoth}
 use Rattle.rules.specs.declared.UnitRecord.{UnitRecord}
@@ -48,6 +48,11 @@ returns-4 c = simp (active (c .before .before .before), c .before .before .if2 .
 empty : (c : tie.Else4) → isEmpty (c .before .before .before .before .before .before .args .y .kind) ≡ true
 empty c = said-yes (c .before .before .before .before .is-empty .ensures) (c .if4 .left)
 
+returns-5 : tie.Need-returns-5
+returns-5 c =
+    let d = c .before in
+    simp (active (d .before .before .before), d .before .before .if2 .left, shareable (d .before), empty d, lt-leb _ _ (suc-le-suc (c .if5 .taken)))
+
 share-requires : tie.Need-share-requires
 share-requires c κs = search needs
 
@@ -57,12 +62,17 @@ message-requires c κs = search needs
 sent : (x : UnitRecord) {debt u v : ℕ} (s : Shared) (y : Slot) → s ≡ shared x → y ≡ message Work u v (s .given) → OnBoth (s .unit) y debt ≡ sendEffect debt u v x
 sent x s y p q = cc
 
-returns-5 : tie.Need-returns-5
-returns-5 c =
-    let d = c .before .before .before in
+-- at the fifth test the created count decides
+room : (c : tie.Else5) → suc (c .before .before .before .before .before .before .before .args .made) ≤ full
+room c = c .if5 .left
+
+returns-6 : tie.Need-returns-6
+returns-6 c =
+    let f = c .before .before .before in
+    let d = f .before in
     let a = d .before .before .before .before .before .before .args in
     sent (a .x) (c .before .before .share .result) (c .message .result) (c .before .before .share .ensures) (c .message .ensures)
-    ∙ sym (judge-passed Refused (sendChecks (a .x) (a .y)) (sendEffect (a .debt) (a .u) (a .v) (a .x)) (active (d .before .before .before), (d .before .before .if2 .left, (d .before .if3 .left, (empty d, tt)))))
+    ∙ sym (judge-passed Refused (sendChecks (a .x) (a .y) (a .made)) (sendEffect (a .debt) (a .u) (a .v) (a .x)) (active (d .before .before .before), (d .before .before .if2 .left, (d .before .if3 .left, (empty d, (room f, tt))))))
 
 pub send-spec : {M : Type 1} → statement M
 send-spec =
@@ -74,6 +84,7 @@ send-spec =
     returns-2
     returns-3
     returns-4
+    returns-5
     share-requires
     message-requires
-    returns-5)
+    returns-6)

@@ -1,0 +1,85 @@
+-- An accepted step never leaves the board as it was: its debt, its unit or its slot differs from what stood there.
+use mathlib.Core.Path.{_≡_, refl, sym, ap, _∙_}
+use mathlib.Core.Bool.{true, false}
+use mathlib.Core.List.{List}
+use Prim.Native.Nat.{ℕ, _<_}
+use native.Mathlib.Omega.{arith}
+use lib.ListN.{getD, set}
+use lib.Seq.{getD-set-same}
+use Rattle.rules.specs.Words.{isActive, isEmpty, isRequest, blankUnit, blankSlot}
+use Rattle.rules.specs.Sheets.Sheet.{unitAt, slotAt, Sheet, Outcome}
+use Rattle.rules.specs.Sheets.Sound.{Sound}
+use Rattle.rules.specs.Actions.{actionOf}
+use Rattle.rules.specs.Letters.{slotOf}
+use Rattle.rules.specs.Sheets.Steps.{unitOf, doneOn, applied, step}
+use Rattle.rules.specs.Effects.{deliverEffect}
+use Rattle.rules.proofs.FactLaws.{true-not-false}
+use Rattle.rules.proofs.Sheets.SoundLaws.{root-or-other}
+use Rattle.rules.proofs.Sheets.Accepted.{AcceptedAs, shown, accepted-sound, accepted-as}
+use Rattle.rules.specs.declared.Kind.{Kind}
+use Rattle.rules.specs.declared.Kind.the-variants.{Empty, Work, Return, Request, Supply}
+use Rattle.rules.specs.declared.Action.{Action}
+use Rattle.rules.specs.declared.Action.the-variants.{Unknown, Start, Send, Request as RequestStep, Deliver, Rest, Tick, Release}
+use Rattle.rules.specs.declared.Effect.{Effect}
+use Rattle.rules.specs.declared.UnitRecord.{UnitRecord}
+use Rattle.rules.specs.declared.Slot.{Slot}
+use Rattle.rules.specs.declared.StepRecord.{StepRecord}
+
+module _ (b : Sheet) (r : StepRecord) (h : Sound b) where
+  -- ---- where the board stays as it was, what is stored stood there before
+  unit-stays : (u : ℕ) (x : UnitRecord) → u < b .n → set (b .units) u x ≡ b .units → x ≡ unitAt b u
+  unit-stays u x l e = sym (getD-set-same (b .units) u x blankUnit (omega (arith, h .s1-sizes, l))) ∙ ap (λ (us : List UnitRecord). getD us u blankUnit) e
+
+  slot-stays : (s : ℕ) (y : Slot) → s < b .m → set (b .slots) s y ≡ b .slots → y ≡ slotAt b s
+  slot-stays s y l e = sym (getD-set-same (b .slots) s y blankSlot (omega (arith, h .s1-sizes, l))) ∙ ap (λ (ys : List Slot). getD ys s blankSlot) e
+
+  -- a slot that was empty is filled
+  fills : (s : ℕ) (y : Slot) → s < b .m → isEmpty (slotAt b s .kind) ≡ true → isEmpty (y .kind) ≡ false → set (b .slots) s y ≡ b .slots → ⊥
+  fills s y l before after e = true-not-false (sym before ∙ sym (ap (λ (z : Slot). isEmpty (z .kind)) (slot-stays s y l e)) ∙ after)
+
+  -- a slot that was filled is emptied
+  empties : (s : ℕ) → s < b .m → isEmpty (slotAt b s .kind) ≡ false → set (b .slots) s blankSlot ≡ b .slots → ⊥
+  empties s l before e = true-not-false (ap (λ (z : Slot). isEmpty (z .kind)) (slot-stays s blankSlot l e) ∙ before)
+
+  -- an active unit is no longer active
+  quiets : (u : ℕ) (x : UnitRecord) → u < b .n → isActive (unitAt b u .state) ≡ true → isActive (x .state) ≡ false → set (b .units) u x ≡ b .units → ⊥
+  quiets u x l before after e = true-not-false (sym before ∙ sym (ap (λ (z : UnitRecord). isActive (z .state)) (unit-stays u x l e)) ∙ after)
+
+  -- ---- each action
+  -- the effect at these places leaves the board as it was
+  abbrev Stays : Action → ℕ → ℕ → Effect → Type 0
+  Stays a u s e = applied b a u s e .sheet ≡ b
+
+  deliver-changes : AcceptedAs b r Deliver → (k : Kind) → slotAt b (r .slot) .kind ≡ k
+      → Stays Deliver (slotAt b (r .slot) .to) (r .slot) (deliverEffect (b .debt) (b .delay) (unitAt b (slotAt b (r .slot) .to)) (slotAt b (r .slot)) k) → ⊥
+  unfolding applied
+  deliver-changes c Empty q e = true-not-false (sym (ap isEmpty q) ∙ shown 35 c)
+  deliver-changes c Work q e = empties (r .slot) (shown 14 c) (shown 35 c) (ap (λ (d : Sheet). d .slots) e)
+  deliver-changes c Return q e =
+      root-or-other (λ z w. Stays Deliver (slotAt b (r .slot) .to) (r .slot) z → ⊥) (slotAt b (r .slot) .to) 0 _ _ (λ u p. empties (r .slot) (shown 14 c) (shown 35 c) (ap (λ (d : Sheet). d .slots) p))
+      (λ l p. empties (r .slot) (shown 14 c) (shown 35 c) (ap (λ (d : Sheet). d .slots) p)) e
+  deliver-changes c Request q e = true-not-false (sym (ap isRequest q) ∙ sym (ap (λ (z : Slot). isRequest (z .kind)) (slot-stays (r .slot) _ (shown 14 c) (ap (λ (d : Sheet). d .slots) e))))
+  deliver-changes c Supply q e = empties (r .slot) (shown 14 c) (shown 35 c) (ap (λ (d : Sheet). d .slots) e)
+
+  rest-changes : AcceptedAs b r Rest → Stays Rest (r .unit) 0 (doneOn b r Rest) → ⊥
+  unfolding applied
+  rest-changes c =
+      root-or-other (λ z w. Stays Rest (r .unit) 0 z → ⊥) (r .unit) 0 _ _ (λ u e. quiets (r .unit) _ (shown 13 c) (shown 31 c) refl (ap (λ (d : Sheet). d .units) e))
+      (λ l e. quiets (r .unit) _ (shown 13 c) (shown 31 c) refl (ap (λ (d : Sheet). d .units) e))
+
+  changes : (a : Action) → AcceptedAs b r a → Stays a (unitOf b r a) (slotOf r a) (doneOn b r a) → ⊥
+  unfolding applied
+  changes Unknown c e = true-not-false (sym (shown 16 c))
+  changes Start c e = omega (arith, shown 37 c, ap (λ (d : Sheet). d .debt) e)
+  changes Send c e = fills (r .slot) _ (shown 14 c) (shown 34 c) refl (ap (λ (d : Sheet). d .slots) e)
+  changes RequestStep c e = fills (r .slot) _ (shown 14 c) (shown 34 c) refl (ap (λ (d : Sheet). d .slots) e)
+  changes Deliver c e = deliver-changes c (slotAt b (r .slot) .kind) refl e
+  changes Rest c e = rest-changes c e
+  changes Tick c e = omega (arith, shown 39 c, ap (λ (x : UnitRecord). x .countdown) (unit-stays (r .unit) _ (shown 13 c) (ap (λ (d : Sheet). d .units) e)))
+  changes Release c e = fills (r .slot) _ (shown 14 c) (shown 34 c) refl (ap (λ (d : Sheet). d .slots) e)
+
+pub accepted-changes : (b : Sheet) (r : StepRecord) → step b r .answer ≡ 0 → step b r .sheet ≡ b → ⊥
+accepted-changes b r z e =
+    let h : Sound b = accepted-sound b r z in
+    let c = accepted-as b r h (actionOf (r .kind)) refl z in
+    changes b r h (actionOf (r .kind)) c (sym (ap (λ (o : Outcome). o .sheet) (c .gives)) ∙ e)

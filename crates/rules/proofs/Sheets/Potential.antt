@@ -1,0 +1,269 @@
+-- The potential of a board: with no unit active and no work under way, each accepted step but a start lowers it by at least 1, and
+-- it is at most the bound on drains.
+use mathlib.Core.Path.{_≡_, refl, sym, ap, subst, _∙_}
+use mathlib.Core.Bool.{true, false}
+use mathlib.Core.List.{List, [], _∷_}
+use Prim.Native.Nat.{ℕ, zero, suc, _+_, _*_, _≤_, _<_}
+use native.Mathlib.Nat.{add-mul, mul-suc, mul-le-mul-left}
+use native.Mathlib.Omega.{arith}
+use lib.ListN.{getD, set}
+use borrow.Author.Tests.{eq-eqb}
+use Rattle.rules.specs.Facts.{sumOf, oneIf}
+use Rattle.rules.specs.Words.{isIdle, isEmpty, isActive, isWaiting, isWork, isReturn, blankUnit, blankSlot}
+use Rattle.rules.specs.Sheets.Sheet.{parentAt, unitAt, slotAt, Sheet, Outcome}
+use Rattle.rules.specs.Sheets.Sound.{pendingIn, Sound}
+use Rattle.rules.specs.Sheets.Depths.{depth, greatestDepth}
+use Rattle.rules.specs.Actions.{actionOf}
+use Rattle.rules.specs.Letters.{slotOf}
+use Rattle.rules.specs.Effects.{message, waitingWith, returned, returnEffect, deliverEffect}
+use Rattle.rules.specs.Sheets.Steps.{unitOf, doneOn, changed, applied, step}
+use Rattle.rules.specs.Sheets.Lists.{startBy}
+use Rattle.rules.specs.Sheets.Drains.{Quiet, DrainStep, waitingUnits, returnsUnderWay, drainBound}
+use Rattle.rules.proofs.FactLaws.{true-not-false}
+use Rattle.rules.proofs.SumLaws.{sum-set, sum-bound, sum-plus}
+use Rattle.rules.proofs.Sheets.SoundLaws.{below-or-not, root-or-other, parent-below, unit-past, slot-past}
+use Rattle.rules.proofs.Sheets.Accepted.{AcceptedAs, shown, accepted-as}
+use Rattle.rules.proofs.Sheets.EntryLaws.{waiting-is, unit-row-as, slot-row-as, pending-as, suspended-active, pending-suspended}
+use Rattle.rules.proofs.Sheets.DepthLaws.{depth-at-most, deeper-than-parent}
+use Rattle.rules.specs.declared.State.{State}
+use Rattle.rules.specs.declared.State.the-variants.{Idle, Active, Waiting}
+use Rattle.rules.specs.declared.Kind.{Kind}
+use Rattle.rules.specs.declared.Kind.the-variants.{Empty, Work, Return, Request, Supply}
+use Rattle.rules.specs.declared.Action.{Action}
+use Rattle.rules.specs.declared.Action.the-variants.{Unknown, Start, Send, Request as RequestStep, Deliver, Rest, Tick, Release}
+use Rattle.rules.specs.declared.Effect.{Effect}
+use Rattle.rules.specs.declared.UnitRecord.{UnitRecord}
+use Rattle.rules.specs.declared.Slot.{Slot}
+use Rattle.rules.specs.declared.StepRecord.{StepRecord}
+
+-- ---- the potential: the steps that a waiting unit and a return under way can still cause
+abbrev pub unitWorth : ℕ → List ℕ → ℕ → UnitRecord → State → ℕ
+unitWorth d ps i u Idle = 0
+unitWorth d ps i u Active = 0
+unitWorth d ps i u Waiting = u .countdown + (2 + (d + 2) * depth ps (getD ps i 0))
+
+abbrev pub slotWorth : ℕ → List ℕ → Slot → Kind → ℕ
+slotWorth d ps y Empty = 0
+slotWorth d ps y Work = 0
+slotWorth d ps y Return = 1 + (d + 2) * depth ps (y .to)
+slotWorth d ps y Request = 0
+slotWorth d ps y Supply = 0
+
+unfoldable pub unitsWorth : ℕ → List ℕ → List UnitRecord → ℕ
+unitsWorth d ps us = sumOf (λ i u. unitWorth d ps i u (u .state)) us
+
+unfoldable pub slotsWorth : ℕ → List ℕ → List Slot → ℕ
+slotsWorth d ps ys = sumOf (λ j y. slotWorth d ps y (y .kind)) ys
+
+abbrev pub potential : Sheet → ℕ
+potential b = unitsWorth (b .delay) (b .parents) (b .units) + slotsWorth (b .delay) (b .parents) (b .slots)
+
+-- what holds of every entry and of a new one holds of every entry after the store
+set-all : {A : Type 0} (P : A → Type 0) (xs : List A) (i : ℕ) (a d : A) → P a → ((j : ℕ) → P (getD xs j d)) → (j : ℕ) → P (getD (set xs i a) j d)
+set-all P [] i a d p h j = h j
+set-all P (x ∷ xs) zero a d p h zero = p
+set-all P (x ∷ xs) zero a d p h (suc j) = h (suc j)
+set-all P (x ∷ xs) (suc i) a d p h zero = h zero
+set-all P (x ∷ xs) (suc i) a d p h (suc j) = set-all P xs i a d p (λ k. h (suc k)) j
+
+-- ---- one step of a drain
+pub record Lower (b c : Sheet) : Type 0 where
+  pub quiet : Quiet c
+  pub less : potential c + 1 ≤ potential b
+
+module _ (b : Sheet) (h : Sound b) (q : Quiet b) where
+  abbrev worthOf : ℕ → UnitRecord → ℕ
+  worthOf i u = unitWorth (b .delay) (b .parents) i u (u .state)
+
+  abbrev slotWorthOf : Slot → ℕ
+  slotWorthOf y = slotWorth (b .delay) (b .parents) y (y .kind)
+
+  lower-both : (u s : ℕ) (x : UnitRecord) (y : Slot) (debt : ℕ) {cs ps : List ℕ} → u < b .n → s < b .m → isActive (x .state) ≡ false → isWork (y .kind) ≡ false
+      → worthOf u x + slotWorthOf y + 1 ≤ worthOf u (unitAt b u) + slotWorthOf (slotAt b s) → Lower b (changed b (set (b .units) u x) (set (b .slots) s y) debt cs ps)
+  unfolding unitsWorth slotsWorth
+  lower-both u s x y debt l k a e w = record {
+    quiet = record {
+      none-active = set-all (λ (z : UnitRecord). isActive (z .state) ≡ false) (b .units) u x blankUnit a (q .none-active);
+      no-work = set-all (λ (z : Slot). isWork (z .kind) ≡ false) (b .slots) s y blankSlot e (q .no-work);
+    };
+    less = omega (
+      arith,
+      sum-set worthOf (b .units) u x blankUnit (omega (arith, h .s1-sizes, l)),
+      sum-set (λ j z. slotWorthOf z) (b .slots) s y blankSlot (omega (arith, h .s1-sizes, k)),
+      w,
+    );
+  }
+
+  lower-unit : (u s : ℕ) (x : UnitRecord) (debt : ℕ) {cs ps : List ℕ} → u < b .n → s < b .m → isActive (x .state) ≡ false → worthOf u x + 1 ≤ worthOf u (unitAt b u)
+      → Lower b (changed b (set (b .units) u x) (set (b .slots) s (slotAt b s)) debt cs ps)
+  lower-unit u s x debt l k a w = lower-both u s x (slotAt b s) debt l k a (q .no-work s) (omega (arith, w))
+
+  lower-slot : (u s : ℕ) (y : Slot) (debt : ℕ) {cs ps : List ℕ} → u < b .n → s < b .m → isWork (y .kind) ≡ false → slotWorthOf y + 1 ≤ slotWorthOf (slotAt b s)
+      → Lower b (changed b (set (b .units) u (unitAt b u)) (set (b .slots) s y) debt cs ps)
+  lower-slot u s y debt l k a w = lower-both u s (unitAt b u) y debt l k (q .none-active u) a (omega (arith, w))
+
+  -- no unit is active, so none is suspended, and no request and no supply is under way
+  pub not-active : (i : ℕ) → unitAt b i .state ≡ Active → ⊥
+  not-active i e = true-not-false (sym (ap isActive e) ∙ q .none-active i)
+
+  pub not-work : (j : ℕ) → slotAt b j .kind ≡ Work → ⊥
+  not-work j e = true-not-false (sym (ap isWork e) ∙ q .no-work j)
+
+  not-pending : (s i : ℕ) → i < b .n → pendingIn i (slotAt b s) (slotAt b s .kind) ≡ 1 → ⊥
+  not-pending s i k e = not-active i (suspended-active b h i k (pending-suspended b h s i k e))
+
+  pub not-request : (s : ℕ) → s < b .m → slotAt b s .kind ≡ Request → ⊥
+  not-request s l e =
+      not-pending s (slotAt b s .from) (slot-row-as b h s Request l e .0) (pending-as _ (slotAt b s) Request e ∙ ap oneIf (eq-eqb (slotAt b s .from) (slotAt b s .from) refl))
+
+  pub not-supply : (s : ℕ) → s < b .m → slotAt b s .kind ≡ Supply → ⊥
+  not-supply s l e =
+      not-pending s (slotAt b s .to) (slot-row-as b h s Supply l e .1 .0) (pending-as _ (slotAt b s) Supply e ∙ ap oneIf (eq-eqb (slotAt b s .to) (slotAt b s .to) refl))
+
+  worth-as : (i : ℕ) (k : State) → unitAt b i .state ≡ k → worthOf i (unitAt b i) ≡ unitWorth (b .delay) (b .parents) i (unitAt b i) k
+  worth-as i k e = ap (unitWorth (b .delay) (b .parents) i (unitAt b i)) e
+
+  slot-worth-as : (s : ℕ) (k : Kind) → slotAt b s .kind ≡ k → slotWorthOf (slotAt b s) ≡ slotWorth (b .delay) (b .parents) (slotAt b s) k
+  slot-worth-as s k e = ap (slotWorth (b .delay) (b .parents) (slotAt b s)) e
+
+  -- ---- the steps that can be accepted
+  module _ (r : StepRecord) where
+    -- the board after an effect at these places
+    abbrev LowerBy : Action → ℕ → ℕ → Effect → Type 0
+    LowerBy a u s e = Lower b (applied b a u s e .sheet)
+
+    tick-lower : AcceptedAs b r Tick → LowerBy Tick (r .unit) 0 (doneOn b r Tick)
+    unfolding applied
+    tick-lower c =
+        let waiting = waiting-is (unitAt b (r .unit) .state) (shown 38 c) in
+        lower-unit (r .unit) 0 _ (b .debt) (shown 13 c) (omega (arith, h .s1-sizes)) (q .none-active (r .unit)) (rw waiting (omega (arith, shown 39 c)))
+
+    release-lower : AcceptedAs b r Release → LowerBy Release (r .unit) (r .slot) (doneOn b r Release)
+    unfolding applied
+    release-lower c =
+        lower-both (r .unit) (r .slot) blankUnit (message Return (r .unit) (parentAt b (r .unit)) (unitAt b (r .unit) .weight)) (b .debt) (shown 13 c) (shown 14 c) refl refl
+        (omega (arith, worth-as (r .unit) Waiting (waiting-is _ (shown 38 c))))
+
+    -- a return reaches unit 0, or it makes an idle or waiting unit wait, one less deep
+    module _ (c : AcceptedAs b r Deliver) (e : slotAt b (r .slot) .kind ≡ Return) where
+      abbrev y : Slot
+      y = slotAt b (r .slot)
+
+      abbrev v : ℕ
+      v = y .to
+
+      abbrev x : UnitRecord
+      x = unitAt b v
+
+      receiver-used : v < b .n
+      receiver-used =
+          let row = slot-row-as b h (r .slot) Return (shown 14 c) e in
+          omega (arith, row, parent-below b h (y .from) (row .0) (row .1 .0))
+
+      one-deeper : 1 ≤ v → (b .delay + 2) * depth (b .parents) v ≡ (b .delay + 2) * depth (b .parents) (parentAt b v) + (b .delay + 2)
+      one-deeper l = ap (λ (k : ℕ). (b .delay + 2) * k) (deeper-than-parent b h v l receiver-used) ∙ mul-suc (b .delay + 2) (depth (b .parents) (parentAt b v))
+
+      -- whatever its countdown is then: at most the delay
+      waits-lower : (k : ℕ) {cs ps : List ℕ} → k ≤ b .delay → 1 ≤ v → Lower b (changed b (set (b .units) v (waitingWith (x .weight + y .weight) k)) (set (b .slots) (r .slot) blankSlot) (b .debt) cs ps)
+      waits-lower k p l =
+          lower-both v (r .slot) (waitingWith (x .weight + y .weight) k) blankSlot (b .debt) receiver-used (shown 14 c) refl refl (omega (arith, one-deeper l, slot-worth-as (r .slot) Return e))
+
+      returned-lower : {cs ps : List ℕ} → 1 ≤ v → (k : State) → x .state ≡ k → Lower b (changed b (set (b .units) v (returned (b .delay) x (y .weight) k)) (set (b .slots) (r .slot) blankSlot) (b .debt) cs ps)
+      returned-lower l Idle z = waits-lower _ (omega (arith, unit-row-as b h v Idle receiver-used z)) l
+      returned-lower l Active z = absurd (not-active v z)
+      returned-lower l Waiting z = waits-lower _ (omega (arith, unit-row-as b h v Waiting receiver-used z)) l
+
+      return-lower : LowerBy Deliver v (r .slot) (returnEffect (b .debt) (b .delay) x y)
+      unfolding applied
+      return-lower =
+          root-or-other (λ z w. LowerBy Deliver v (r .slot) z) v 0 _ _ (λ z. lower-slot v (r .slot) blankSlot _ receiver-used (shown 14 c) refl (omega (arith, slot-worth-as (r .slot) Return e)))
+          (λ l. returned-lower l (x .state) refl)
+
+    deliver-lower : AcceptedAs b r Deliver → LowerBy Deliver (slotAt b (r .slot) .to) (r .slot) (doneOn b r Deliver)
+    deliver-lower c = by-kind (slotAt b (r .slot) .kind) refl
+      where
+        by-kind : (k : Kind) → slotAt b (r .slot) .kind ≡ k → LowerBy Deliver (slotAt b (r .slot) .to) (r .slot) (deliverEffect (b .debt) (b .delay) (unitAt b (slotAt b (r .slot) .to)) (slotAt b (r .slot)) k)
+        by-kind Empty e = absurd (true-not-false (sym (ap isEmpty e) ∙ shown 35 c))
+        by-kind Work e = absurd (not-work (r .slot) e)
+        by-kind Return e = return-lower c e
+        by-kind Request e = absurd (not-request (r .slot) (shown 14 c) e)
+        by-kind Supply e = absurd (not-supply (r .slot) (shown 14 c) e)
+
+    -- an active unit is asked for, and there is none
+    no-active : isActive (unitAt b (r .unit) .state) ≡ true → ⊥
+    no-active e = true-not-false (sym e ∙ q .none-active (r .unit))
+
+    lower-as : (a : Action) → AcceptedAs b r a → step b r .answer ≡ 0 → startBy a ≡ 0 → LowerBy a (unitOf b r a) (slotOf r a) (doneOn b r a)
+    unfolding applied
+    lower-as Unknown c z n = absurd (true-not-false (sym (shown 16 c)))
+    lower-as Start c z n = absurd (omega (arith, n))
+    lower-as Send c z n = absurd (no-active (shown 31 c))
+    lower-as RequestStep c z n = absurd (no-active (shown 31 c))
+    lower-as Deliver c z n = deliver-lower c
+    lower-as Rest c z n = absurd (no-active (shown 31 c))
+    lower-as Tick c z n = tick-lower c
+    lower-as Release c z n = release-lower c
+
+    pub drain-step-lowers : DrainStep b r → Lower b (step b r .sheet)
+    drain-step-lowers z =
+        let c = accepted-as b r h (actionOf (r .kind)) refl (z .0) in
+        subst (λ (o : Outcome). Lower b (o .sheet)) (sym (c .gives)) (lower-as (actionOf (r .kind)) c (z .0) (z .1))
+
+-- ---- the bound: each waiting unit and each return is worth at most (delay + 2) × the greatest depth
+module _ (b : Sheet) (h : Sound b) where
+  abbrev most : ℕ
+  most = (b .delay + 2) * greatestDepth b
+
+  -- a unit one deeper than its parent, against the greatest depth
+  deep-most : (i : ℕ) → 1 ≤ i → i < b .n → (b .delay + 2) * depth (b .parents) (parentAt b i) + (b .delay + 2) ≤ most
+  deep-most i p l =
+      subst (λ (k : ℕ). k ≤ most) (mul-suc (b .delay + 2) (depth (b .parents) (parentAt b i)))
+      (mul-le-mul-left (b .delay + 2) (subst (λ (k : ℕ). k ≤ greatestDepth b) (deeper-than-parent b h i p l) (depth-at-most (b .parents) (b .n) i l)))
+
+  unit-most : (i : ℕ) → i < 64 → unitWorth (b .delay) (b .parents) i (unitAt b i) (unitAt b i .state) ≤ oneIf (isWaiting (unitAt b i .state)) * most
+  unit-most i l = by-state (unitAt b i .state) refl
+    where
+      waiting-most : unitAt b i .state ≡ Waiting → unitWorth (b .delay) (b .parents) i (unitAt b i) Waiting ≤ 1 * most
+      waiting-most e =
+          below-or-not i (b .n) (λ p. omega (arith, deep-most i (unit-row-as b h i Waiting p e .1 .1 .1 .0) p, unit-row-as b h i Waiting p e))
+          (λ p. absurd (true-not-false (sym (unit-past b h i p) ∙ ap isIdle e)))
+
+      by-state : (k : State) → unitAt b i .state ≡ k → unitWorth (b .delay) (b .parents) i (unitAt b i) k ≤ oneIf (isWaiting k) * most
+      by-state Idle e = omega arith
+      by-state Active e = omega arith
+      by-state Waiting e = waiting-most e
+
+  abbrev returnAt : Slot → ℕ
+  returnAt y = oneIf (isReturn (y .kind))
+
+  -- a return is worth at least d + 1 less: the ticks of its sender and the release are behind it
+  slot-most : (j : ℕ) → j < 256 → slotWorth (b .delay) (b .parents) (slotAt b j) (slotAt b j .kind) + returnAt (slotAt b j) * (b .delay + 1) ≤ returnAt (slotAt b j) * most
+  slot-most j l = by-kind (slotAt b j .kind) refl
+    where
+      return-most : slotAt b j .kind ≡ Return → slotWorth (b .delay) (b .parents) (slotAt b j) Return + 1 * (b .delay + 1) ≤ 1 * most
+      return-most e =
+          below-or-not j (b .m)
+          (λ p.
+          let row = slot-row-as b h j Return p e in
+          omega (arith, deep-most (slotAt b j .from) (row .0) (row .1 .0), ap (λ (k : ℕ). (b .delay + 2) * depth (b .parents) k) (row .1 .1 .0)))
+          (λ p. absurd (true-not-false (sym (slot-past b h j p) ∙ ap isEmpty e)))
+
+      by-kind : (k : Kind) → slotAt b j .kind ≡ k → slotWorth (b .delay) (b .parents) (slotAt b j) k + oneIf (isReturn k) * (b .delay + 1) ≤ oneIf (isReturn k) * most
+      by-kind Empty e = omega arith
+      by-kind Work e = omega arith
+      by-kind Return e = return-most e
+      by-kind Request e = omega arith
+      by-kind Supply e = omega arith
+
+  pub potential-less : potential b + returnsUnderWay b * (b .delay + 1) ≤ drainBound b
+  unfolding drainBound waitingUnits returnsUnderWay unitsWorth slotsWorth
+  potential-less = omega (
+    arith,
+    sum-bound (λ i u. unitWorth (b .delay) (b .parents) i u (u .state)) (λ i u. oneIf (isWaiting (u .state))) most (b .units) blankUnit (λ i l. unit-most i (omega (arith, l, h .s1-sizes))),
+    sum-plus (λ j y. slotWorth (b .delay) (b .parents) y (y .kind)) (λ j y. returnAt y) (b .delay + 1) (b .slots),
+    sum-bound (λ j y. slotWorth (b .delay) (b .parents) y (y .kind) + returnAt y * (b .delay + 1)) (λ j y. returnAt y) most (b .slots) blankSlot (λ j l. slot-most j (omega (arith, l, h .s1-sizes))),
+    add-mul (sumOf (λ i u. oneIf (isWaiting (u .state))) (b .units)) (sumOf (λ j y. returnAt y) (b .slots)) most,
+  )
+
+  pub potential-bound : potential b ≤ drainBound b
+  potential-bound = omega (arith, potential-less)
