@@ -4,12 +4,8 @@ use crate::print::newline;
 use crate::print::tab;
 use crate::print::text;
 use crate::print::word;
+use casetext::entry;
 use rules::Board;
-use rules::Kind;
-use rules::Round;
-use rules::Slot;
-use rules::State;
-use rules::UnitRecord;
 
 const STATES: [u8; 19] = *b"idle\tactive\twaiting";
 
@@ -18,83 +14,6 @@ const KINDS: [u8; 32] = *b"empty\twork\treturn\trequest\tsupply";
 const SUSPENSIONS: [u8; 14] = *b"free\tsuspended";
 
 const ROUNDS: [u8; 12] = *b"none\tone\ttwo";
-
-// The place of a state among their words.
-fn state_place(s: State) -> u64 {
-    match s {
-        State::Idle => 0,
-        State::Active => 1,
-        State::Waiting => 2,
-    }
-}
-
-// The place of a kind among their words.
-fn kind_place(k: Kind) -> u64 {
-    match k {
-        Kind::Empty => 0,
-        Kind::Work => 1,
-        Kind::Return => 2,
-        Kind::Request => 3,
-        Kind::Supply => 4,
-    }
-}
-
-// An entry is four numbers. A unit's are its state, weight and countdown, and whether it is suspended.
-fn unit_entry(x: UnitRecord) -> [u64; 4] {
-    let s = x.state;
-    [
-        state_place(s),
-        x.weight,
-        x.countdown as u64,
-        x.suspended as u64,
-    ]
-}
-
-fn slot_entry(y: Slot) -> [u64; 4] {
-    let k = y.kind;
-    [kind_place(k), y.from as u64, y.to as u64, y.weight]
-}
-
-// The place of a round among their words.
-fn round_place(r: Round) -> u64 {
-    match r {
-        Round::None => 0,
-        Round::One => 1,
-        Round::Two => 2,
-    }
-}
-
-fn marks_entry(b: Board, i: usize) -> [u64; 4] {
-    let k = b.rounds;
-    let marks = k.visited;
-    if i < 64 {
-        return [marks[i] as u64, 0, 0, 0];
-    }
-    let r = k.round;
-    [round_place(r), k.processed, k.created, 0]
-}
-
-// The entries of the counting rounds, and of what they count: 64 counts, 64 marks, the open round with the totals.
-fn rounds_entry(b: Board, i: usize) -> [u64; 4] {
-    if i < 64 {
-        return [b.created[i] as u64, b.processed[i], 0, 0];
-    }
-    marks_entry(b, i - 64)
-}
-
-// The entries of a board: 64 parents, 64 units, 256 slots, then those of the rounds.
-fn entry(b: Board, i: usize) -> [u64; 4] {
-    if i < 64 {
-        return [b.parents[i] as u64, 0, 0, 0];
-    }
-    if i < 128 {
-        return unit_entry(b.units[i - 64]);
-    }
-    if i < 384 {
-        return slot_entry(b.slots[i - 128]);
-    }
-    rounds_entry(b, i - 384)
-}
 
 fn same(x: [u64; 4], y: [u64; 4]) -> bool {
     x[0] == y[0] && x[1] == y[1] && x[2] == y[2] && x[3] == y[3]

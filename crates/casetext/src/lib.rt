@@ -1,7 +1,11 @@
 // What programs that execute cases write alike: written whole at a place of a buffer, or refused by 27 with the buffer as it was.
+// In `entries` a board as numbers.
+mod entries;
+
 use decimal::digit_count;
 use decimal::put_number;
 use decimal::put_tabbed_number;
+pub use entries::entry;
 use placing::Wrote;
 use placing::put_bytes;
 use rules::Verdict;

@@ -12,9 +12,10 @@ ghost use Rattle.listing.specs.Batches.{linesAt, placeAfter, recordOf};
 ghost use Rattle.listing.specs.Turns.{Gathers};
 
 // Lines as step records, the numbers that refuse those among them that are no step, and the place behind them.
+// The refusals come first: with the steps before them two copies of the steps were slow for their distance (docs/PERFORMANCE.md, "Copies").
 pub(crate) struct Gathered {
-    pub(crate) steps: [StepRecord; BATCH],
     pub(crate) refusals: [u16; BATCH],
+    pub(crate) steps: [StepRecord; BATCH],
     pub(crate) count: usize,
     pub(crate) at: usize,
 }

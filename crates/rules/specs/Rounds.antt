@@ -112,7 +112,7 @@ roundsAfter v k u = leftOf (v .n) (tallied v k u (k .round))
 unfoldable pub found : Seen → Rounds → ℕ → Finding
 found v k u = foundOf (v .n) (tallied v k u (k .round))
 
--- the number of a finding: 0 for the three of an accepted visit
+-- the number of a finding: 0 for the three of an accepted visit, "no verdict yet", "quiet" and "unsettled"
 abbrev pub numberOf : Finding → ℕ
 numberOf NoVerdict = 0
 numberOf AllQuiet = 0

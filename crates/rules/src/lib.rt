@@ -54,14 +54,16 @@ pub struct Rounds {
 }
 
 // The weight board. A caller may hand over any; which are sound is tested.
+// A number stands before the entries that it counts. With the gaps of this order a board has 6,136 bytes; with 6,120, the least, one copy
+// in each step was slow for its distance (docs/PERFORMANCE.md, "Copies").
 pub struct Board {
     pub n: u16, // units in use, 1 to 64; unit 0 is the root, and tells the end
-    pub m: u16, // slots in use, 1 to 256
-    pub delay: u16, // the countdown that a wait begins with, 0 to 255
-    pub debt: u64, // the rules' own term: the weight still out
     pub parents: [u16; 64], // the parent of each unit, lower than the unit; 0 for unit 0
     pub units: [UnitRecord; 64], // blank from n on
+    pub m: u16, // slots in use, 1 to 256
     pub slots: [Slot; 256], // blank from m on
+    pub delay: u16, // the countdown that a wait begins with, 0 to 255
+    pub debt: u64, // the rules' own term: the weight still out
     pub created: [u32; 64], // how often each unit created work; 0 from n on. Apart from the units, whose records stay at 16 bytes
     pub processed: [u64; 64], // how often each unit processed work; 0 from n on
     pub rounds: Rounds, // blank where no round is open

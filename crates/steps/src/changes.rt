@@ -108,7 +108,9 @@ pub(crate) fn change_at(
         };
     }
     let a = action(r.kind);
+    // side by side, so that the compiler parts the actions once for both
+    let e = record_rule(debt, delay, r, x, p, y, k.created, a);
+    let counts = counted(k, y, a);
     let j = place_refusal(n, m, r, a);
-    let e = unless_refused(j, record_rule(debt, delay, r, x, p, y, k.created, a));
-    change_of(e, x, y, debt, k, counted(k, y, r.kind))
+    change_of(unless_refused(j, e), x, y, debt, k, counts)
 }

@@ -21,38 +21,38 @@ returns c = rw (not-true (c .before .args .sound) (c .if1 .taken))
 action-requires : tie.Need-action-requires
 action-requires c κs = search needs
 
-place-refusal-requires : tie.Need-place-refusal-requires
-place-refusal-requires c κs = search needs
-
 record-rule-requires : tie.Need-record-rule-requires
 record-rule-requires c κs =
-    let d = c .before .before in
+    let d = c .before in
     let g = d .before .args in
-    subst (WeightsFit (g .debt) (g .x) (g .y)) (sym (c .before .action .ensures)) (d .before .pre (not-false (g .sound) (d .if1 .left)) .0)
-
-unless-refused-requires : tie.Need-unless-refused-requires
-unless-refused-requires c κs = search needs
+    subst (WeightsFit (g .debt) (g .x) (g .y)) (sym (c .action .ensures)) (d .before .pre (not-false (g .sound) (d .if1 .left)) .0)
 
 counted-requires : tie.Need-counted-requires
 counted-requires c κs =
-    let d = c .before .before .before .before in
+    let d = c .before .before in
     d .before .pre (not-false (d .before .args .sound) (d .if1 .left)) .1
+
+place-refusal-requires : tie.Need-place-refusal-requires
+place-refusal-requires c κs = search needs
+
+unless-refused-requires : tie.Need-unless-refused-requires
+unless-refused-requires c κs = search needs
 
 change-of-requires : tie.Need-change-of-requires
 change-of-requires c κs = search needs
 
 returns-2 : tie.Need-returns-2
 returns-2 c =
-    let n = c .before .counted in
-    let e = c .before .before .unless-refused in
-    let rule = c .before .before .before in
-    let j = rule .before .place-refusal in
-    let a = rule .before .before .action in
-    let d = rule .before .before .before in
+    let e = c .before .unless-refused in
+    let j = c .before .before .place-refusal in
+    let n = c .before .before .before .counted in
+    let rule = c .before .before .before .before in
+    let a = rule .before .action in
+    let d = rule .before .before in
     let g = d .before .args in
     rw (not-false (g .sound) (d .if1 .left))
     (c .change-of .ensures
-    ∙ ap (changeOf (e .result) (g .x) (g .y) (g .debt) (g .k)) (n .ensures)
+    ∙ ap (changeOf (e .result) (g .x) (g .y) (g .debt) (g .k)) (n .ensures ∙ ap (countedUp (g .k) (g .y)) (a .ensures))
     ∙ ap (λ (f : Effect). changeOf f (g .x) (g .y) (g .debt) (g .k) (countedUp (g .k) (g .y) (actionOf (g .r .kind))))
     (placed-effect (g .n) (g .m) (g .r) (a .result) (j .result) (rule .record-rule .result) (e .result) (j .ensures) (e .ensures)
     ∙ ap (judge Refused (placeChecks (g .n) (g .m) (g .r) (a .result))) (rule .record-rule .ensures)
@@ -64,9 +64,9 @@ change-at-spec =
     (tie.spec
     returns
     action-requires
-    place-refusal-requires
     record-rule-requires
-    unless-refused-requires
     counted-requires
+    place-refusal-requires
+    unless-refused-requires
     change-of-requires
     returns-2)
