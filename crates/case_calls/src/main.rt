@@ -1,4 +1,6 @@
-// What the run and the writers answer where no script reaches: short buffers, kinds that no step has, and little room for a line.
+// What the run, the writers and the census answer where no script reaches: short buffers, kinds that no step has, little room for a line,
+// and sizes that are not counted.
+mod censuses;
 mod edges;
 mod lines;
 mod runs;
@@ -14,6 +16,9 @@ const WRITES: usize = 500;
 
 const HEADS: usize = 125;
 
+// The least census, the largest, and 22 that are refused.
+const CENSUSES: usize = 24;
+
 fn runs_table() {
     for k in 0..RUNS {
         runs::run(k);
@@ -27,6 +32,12 @@ fn writers_table(first: usize, calls: usize) {
     }
 }
 
+fn censuses_table() {
+    for k in 0..CENSUSES {
+        censuses::call(k);
+    }
+}
+
 fn main() {
     print(b"runs\n");
     runs_table();
@@ -34,4 +45,6 @@ fn main() {
     writers_table(0, WRITES);
     print(b"heads\n");
     writers_table(writers::STEPS, HEADS);
+    print(b"censuses\n");
+    censuses_table();
 }

@@ -80,10 +80,10 @@ drop-replicate (suc k) zero = ap (λ (n : ℕ). replicate n 0) (sym (zero-sub (s
 drop-replicate (suc k) (suc n) = drop-replicate k n ∙ simp unary-clauses
 
 -- zeros, as many as a batch can have, written into from the front
-abbrev noughts : List ℕ
+abbrev pub noughts : List ℕ
 noughts = replicate batchMost 0
 
-noughts-padded : (ks : List ℕ) → length ks ≤ batchMost → sets noughts 0 ks ≡ padded ks
+pub noughts-padded : (ks : List ℕ) → length ks ≤ batchMost → sets noughts 0 ks ≡ padded ks
 noughts-padded ks l =
     sets-eq ks noughts 0 (omega (arith, length-replicate {A = ℕ} batchMost 0))
     ∙ ap (λ (n : ℕ). ks ++ drop n noughts) (zero-add (length ks))

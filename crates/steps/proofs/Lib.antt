@@ -6,6 +6,7 @@ pub mod StepLaws
 pub mod BatchLaws
 pub mod RunTurns
 pub mod RunLaws
+pub mod AnswersLaws
 pub mod Walking
 pub mod Lending
 pub mod PlainData

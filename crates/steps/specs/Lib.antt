@@ -4,3 +4,4 @@ pub mod Changing
 pub mod Turns
 pub mod StepMeets
 pub mod RunMeets
+pub mod AnswersOn

@@ -1,4 +1,5 @@
-// A step by value; in `lent` a step and a run on what is lent, in `batch` a run by value.
+// A step by value; in `lent` a step and a run on what is lent, in `batch` a run by value, in `answers` steps that are asked for and not taken.
+mod answers;
 mod batch;
 mod changes;
 mod counting;
@@ -11,6 +12,7 @@ mod requesting;
 mod resting;
 mod sending;
 
+pub use answers::answers_on;
 use board::is_sound;
 use board::no_round;
 use changes::change_at;

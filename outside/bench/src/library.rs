@@ -1,5 +1,5 @@
 //! The proved loops over the public functions, as Rust sees them. Each opens a board whose units form a binary tree,
-//! runs a list of steps on it and gives how many were accepted.
+//! runs a list of steps on it and gives how many were accepted; but for the census, which gives a count of lists.
 
 use crate::lists::Case;
 use reference::Step;
@@ -26,9 +26,10 @@ extern "C" {
     fn bench_soundness(n: u16, m: u16, d: u16, list: *const u16, length: usize, delays: *const u16, tests: usize) -> u64;
     fn bench_lent(n: u16, m: u16, d: u16, steps: *const Record, length: usize) -> u64;
     fn bench_run(n: u16, m: u16, d: u16, steps: *const Record, length: usize, answers: *mut u16, room: usize) -> u64;
+    fn bench_census(m: u16, d: u16, parents: *const u16, count: usize, length: u16, sort: u16) -> u64;
 }
 
-// SAFETY, of all five: the pointers and lengths are those of live slices, and a buffer is borrowed for its call alone.
+// SAFETY, of all six: the pointers and lengths are those of live slices, and a buffer is borrowed for its call alone.
 
 /// The public step, by value, on each record.
 pub fn by_value(case: &mut Case) -> u64 {
@@ -55,4 +56,10 @@ pub fn batches(case: &mut Case) -> u64 {
 pub fn soundness(case: &mut Case) -> u64 {
     let (list, delays) = (&case.flat, &case.delays);
     unsafe { bench_soundness(case.n, case.m, case.d, list.as_ptr(), list.len(), delays.as_ptr(), delays.len()) }
+}
+
+/// The census from the board with these parents: the count of one sort (0 finished, 1 busy, from 2 on other), or the
+/// refusal.
+pub fn census(m: u16, d: u16, parents: &[u16], length: u16, sort: u16) -> u64 {
+    unsafe { bench_census(m, d, parents.as_ptr(), parents.len(), length, sort) }
 }

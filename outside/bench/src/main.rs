@@ -1,7 +1,9 @@
 //! Times the proved code beside plain Rust, in one run: `bench PROGRAM PLAIN`, where the two are the programs to compare.
-//! `bench once WHAT UNITS SLOTS STEPS` does one piece of work once, and `bench list SIDE BYTES TIMES` lists a script of
-//! that size as often, for a count of instructions; `bench script BYTES` writes such a script.
+//! `bench once WHAT UNITS SLOTS STEPS` does one piece of work once, `bench list SIDE BYTES TIMES` lists a script of that
+//! size as often, and `bench census SIDE TIMES` takes the largest census as often, where the side is proved, plain or
+//! tested: for a count of instructions. `bench script BYTES` writes such a script.
 
+mod census;
 mod library;
 mod lists;
 mod plain;
@@ -9,11 +11,15 @@ mod timing;
 
 use lists::Case;
 use std::fs::File;
+use std::hint::black_box;
 use std::io::Write;
 use std::process::{Command, ExitCode, Stdio};
 use timing::beside;
 
 type Work = fn(&mut Case) -> u64;
+
+/// From M, d, the parents, the length and the sort to the count of that sort, or the refusal.
+type Census = fn(u16, u16, &[u16], u16, u16) -> u64;
 
 /// The sizes of boards: the least, a small boat's, the largest.
 const SIZES: [(u16, u16); 3] = [(1, 1), (8, 16), (64, 256)];
@@ -105,6 +111,33 @@ fn list(side: &str, bytes: usize, times: usize) -> Option<()> {
     Some(())
 }
 
+/// The lists that end well in the census of the largest size. Its numbers are hidden, so that no side is built for them.
+fn largest(census: Census) -> u64 {
+    let (m, d, parents, length) = black_box((2, 1, [0, 1], 4));
+    census(m, d, &parents, length, 0)
+}
+
+fn censuses() {
+    heading("the census of the largest size");
+    let mut proved = || largest(library::census);
+    line("census", "3, 2, 4", 1, &mut proved, &mut || largest(census::census));
+    line("census, tested", "3, 2, 4", 1, &mut proved, &mut || largest(census::census_tested));
+}
+
+/// The census of the largest size as often as said, for a count of instructions.
+fn repeat_census(side: &str, times: usize) -> Option<()> {
+    let census: Census = match side {
+        "proved" => library::census,
+        "plain" => census::census,
+        "tested" => census::census_tested,
+        _ => return None,
+    };
+    for _ in 0..times {
+        black_box(largest(census));
+    }
+    Some(())
+}
+
 /// Runs a program on a script in a file; what it writes is dropped.
 fn process(program: &str, script: &str) -> u64 {
     let input = File::open(script).expect("the script is there");
@@ -147,6 +180,10 @@ fn main() -> ExitCode {
             let (Ok(bytes), Ok(times)) = (bytes.parse(), times.parse()) else { return ExitCode::FAILURE };
             list(side, bytes, times).map_or(ExitCode::FAILURE, |()| ExitCode::SUCCESS)
         }
+        ["census", side, times] => {
+            let Ok(times) = times.parse() else { return ExitCode::FAILURE };
+            repeat_census(side, times).map_or(ExitCode::FAILURE, |()| ExitCode::SUCCESS)
+        }
         ["script", bytes] => {
             let Ok(bytes) = bytes.parse() else { return ExitCode::FAILURE };
             let written = std::io::stdout().write_all(&lists::script(bytes));
@@ -156,11 +193,13 @@ fn main() -> ExitCode {
             steps();
             soundness();
             runs();
+            censuses();
             listings();
             programs(proved, plain).map_or(ExitCode::FAILURE, |()| ExitCode::SUCCESS)
         }
         _ => {
-            eprintln!("usage: bench PROGRAM PLAIN | bench once WHAT UNITS SLOTS STEPS | bench script BYTES");
+            eprintln!("usage: bench PROGRAM PLAIN | bench once WHAT UNITS SLOTS STEPS | bench list SIDE BYTES TIMES");
+            eprintln!("       bench census SIDE TIMES | bench script BYTES");
             ExitCode::FAILURE
         }
     }
@@ -201,6 +240,55 @@ mod tests {
                     plain::untested(&mut case);
                     assert!(!opened || answers == case.answers);
                     assert!(opened || answers.iter().all(|&answer| answer == 99));
+                }
+            }
+        }
+    }
+
+    /// The proved census, the two plain ones and the reference's enumeration give the same count of each sort, or the
+    /// same refusal.
+    fn censuses_agree(m: u16, d: u16, parents: &[u16], length: u16) {
+        let enumerated = match reference::census(m, d, parents, length) {
+            Ok(counts) => [counts.finished, counts.busy, counts.other, counts.other],
+            Err(refusal) => [u64::from(refusal); 4],
+        };
+        for (sort, count) in [0, 1, 2, 256].into_iter().zip(enumerated) {
+            for census in [library::census, census::census, census::census_tested] {
+                let begin = &parents[..parents.len().min(3)];
+                assert_eq!(census(m, d, parents, length, sort), count, "{m} {d} {begin:?} {length} {sort}");
+            }
+        }
+    }
+
+    #[test]
+    fn censuses_agree_on_all_boards() {
+        for parents in [&[][..], &[0], &[0, 0], &[0, 1]] {
+            for (m, d) in [(1, 0), (1, 1), (2, 0), (2, 1)] {
+                for length in 0..=4 {
+                    censuses_agree(m, d, parents, length);
+                }
+            }
+        }
+    }
+
+    /// Parents that fit and that do not, too many of them too, and with each of them every mixture of the other numbers
+    /// in and out of reach. The calls of the table `censuses` are among these.
+    #[test]
+    fn censuses_agree_on_refusals() {
+        for (first, second) in [(0, 0), (0, 1), (0, 2), (0, 65_535), (1, 0), (256, 0)] {
+            for count in [0, 1, 2, 3, 64, 65_537] {
+                let mut parents = vec![first, second];
+                parents.resize(count, 0);
+                censuses_agree_with(&parents);
+            }
+        }
+    }
+
+    fn censuses_agree_with(parents: &[u16]) {
+        for m in [0, 1, 2, 3, 258, 65_535] {
+            for d in [0, 1, 2, 256, 65_535] {
+                for length in [0, 1, 4, 5, 256, 65_535] {
+                    censuses_agree(m, d, parents, length);
                 }
             }
         }

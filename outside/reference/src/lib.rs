@@ -7,11 +7,13 @@
 //!   the script.
 //! * [`list`]: the listing of a whole script, bytes to bytes.
 //! * [`tell_rows`]: what a program is to tell for a file of cases.
+//! * [`census`]: how many short lists of steps leave a board finished.
 //!
 //! Every refusal is the number that the scope document or a change request
 //! gives it, see [`refusal`].
 
 mod board;
+mod census;
 mod listing;
 pub mod refusal;
 mod rounds;
@@ -22,6 +24,7 @@ mod step;
 pub use board::{
     Board, Kind, Slot, State, Unit, DEBT_LIMIT, DELAY_LIMIT, FULL_WEIGHT, SLOTS, UNITS,
 };
+pub use census::{census, choices, Counts};
 pub use listing::{
     list, list_into, listing_length, script_lines, walk, write_heading, write_listing_line,
     HEADING, SCRIPT_LIMIT,

@@ -2,15 +2,16 @@
 //! call, so that another program can print the same tables and be compared.
 //!
 //! `cases [table]`, where the table is `damaged` (the default), `balanced`,
-//! `suspended`, `limits`, `runs`, `writes` or `heads`. Lines end with byte 10,
-//! columns are decimal numbers parted by one tab, there is no heading. The
-//! first column is the index of the board or the call, from 0 on in the order
+//! `suspended`, `limits`, `runs`, `writes`, `heads` or `censuses`. Lines end with
+//! byte 10, columns are decimal numbers parted by one tab, there is no heading.
+//! The first column is the index of the board or the call, from 0 on in the order
 //! below. Ranges written a..=b include b. Every call gets a copy of the board.
 //!
 //! `cases boards` prints the first four tables in this order, and `cases calls`
-//! the last three, each behind a line with its name. `cases rows` reads cases from
+//! the last four, each behind a line with its name. `cases rows` reads cases from
 //! standard input and prints what is to be told for them; their format stands at
-//! the top of `rows.rs`.
+//! the top of `rows.rs`. `cases census` prints the table of all censuses for a
+//! reader, in the form described last.
 //!
 //! # damaged, balanced, suspended
 //!
@@ -131,17 +132,59 @@
 //! For each the rooms 0, one byte less than the line has, as many as it has,
 //! one more, 40; a step that is refused whatever the room counts as one byte.
 //! With each room the places 0, 1, the room, one more than the room, 2^64 - 1.
+//!
+//! # censuses
+//!
+//! A call has six numbers: M, d, first, second, count and L. Its list of parents
+//! has `count` entries, which begin with first and second, as far as the count
+//! reaches, and go on with 0.
+//!
+//! Columns:
+//! 1. index
+//! 2. M
+//! 3. d
+//! 4. count, the number of parents
+//! 5. first
+//! 6. second
+//! 7. L
+//! 8. refusal, 0 where there is none
+//! 9. to 11. the lists after which the board is finished, is busy, is neither;
+//!    0 where the call is refused
+//!
+//! Calls, as M d first second count L:
+//! - 0: 1 0 0 0 0 0, the least; 1: 2 1 0 1 2 4, the largest
+//! - 2: 0 0 0 0 0 0; 3: 3 0 0 0 0 0; 4: 65535 0 0 0 0 0; 5: 258 0 0 0 0 0
+//! - 6: 1 2 0 0 0 0; 7: 1 256 0 0 0 0; 8: 1 65535 0 0 0 0
+//! - 9: 1 0 0 0 0 5; 10: 1 0 0 0 0 256; 11: 1 0 0 0 0 65535
+//! - 12: 1 0 0 0 3 0; 13: 1 0 0 0 64 0; 14: 1 0 0 0 65537 0
+//! - 15: 1 0 1 0 1 0; 16: 1 0 0 2 2 0; 17: 1 0 0 65535 2 1; 18: 1 0 256 0 1 0
+//! - 19: 0 0 1 0 1 0; 20: 3 0 1 0 1 0; 21: 1 2 1 0 1 0; 22: 1 0 1 0 1 5;
+//!   23: 1 0 1 0 3 0
+//!
+//! # census
+//!
+//! Cells are filled with spaces on the left to these widths, and each line ends
+//! with byte 10: slots 5, delay 7, parents 9, length 8, lists 9, then three times
+//! a count 11 and its share 8. The first line is the heading: slots, delay,
+//! parents, length, lists, finished, share, busy, share, other, share.
+//!
+//! Boards: for no parents, the parents 0, then 0 and 0, then 0 and 1; for each of
+//! them 1 slot, then 2; for each the delay 0, then 1. Each has an empty line and
+//! then five rows, for the lengths 0..=4. The parents are parted by a space; none
+//! are written as -. The lists are the sum of the three counts. A share is the
+//! count in percent of the lists, rounded to one decimal, a tie up, and %. Numbers
+//! are plain digits.
 
 use reference::refusal::{Refusal, ACCEPTED, NO_ROOM, UNSOUND};
 use reference::{
-    list, tell_rows, write_heading, write_listing_line, write_step, Board, Kind, Slot, State, Step,
-    Unit, DEBT_LIMIT, FULL_WEIGHT, HEADING,
+    census, list, tell_rows, write_heading, write_listing_line, write_step, Board, Counts, Kind,
+    Slot, State, Step, Unit, DEBT_LIMIT, FULL_WEIGHT, HEADING,
 };
 use std::io::{self, Write};
 use std::process::ExitCode;
 
 const BOARDS: [&str; 4] = ["damaged", "balanced", "suspended", "limits"];
-const CALLS: [&str; 3] = ["runs", "writes", "heads"];
+const CALLS: [&str; 4] = ["runs", "writes", "heads", "censuses"];
 
 fn main() -> ExitCode {
     let word = std::env::args().nth(1).unwrap_or("damaged".to_string());
@@ -149,11 +192,12 @@ fn main() -> ExitCode {
         "boards" => named(&BOARDS),
         "calls" => named(&CALLS),
         "rows" => rows(),
+        "census" => Some(census_table()),
         name => table(name),
     };
     let Some(lines) = lines else {
         let tables = [&BOARDS[..], &CALLS].concat().join(" | ");
-        eprintln!("usage: cases [{tables} | boards | calls | rows]");
+        eprintln!("usage: cases [{tables} | boards | calls | rows | census]");
         return ExitCode::FAILURE;
     };
     match io::stdout().lock().write_all(lines.as_bytes()) {
@@ -171,6 +215,7 @@ fn table(name: &str) -> Option<String> {
         "runs" => Some(runs()),
         "writes" => Some(writes()),
         "heads" => Some(heads()),
+        "censuses" => Some(censuses()),
         _ => None,
     }
 }
@@ -487,6 +532,121 @@ fn heads() -> String {
         edges(&mut lines, number, writer);
     }
     lines.text
+}
+
+/// The calls of `censuses`: M, d, first, second, count, L.
+const CENSUSES: [(u16, u16, u16, u16, usize, u16); 24] = [
+    (1, 0, 0, 0, 0, 0),
+    (2, 1, 0, 1, 2, 4),
+    // M, also one that is in reach in its last eight bits.
+    (0, 0, 0, 0, 0, 0),
+    (3, 0, 0, 0, 0, 0),
+    (65_535, 0, 0, 0, 0, 0),
+    (258, 0, 0, 0, 0, 0),
+    // The delay.
+    (1, 2, 0, 0, 0, 0),
+    (1, 256, 0, 0, 0, 0),
+    (1, 65_535, 0, 0, 0, 0),
+    // The length.
+    (1, 0, 0, 0, 0, 5),
+    (1, 0, 0, 0, 0, 256),
+    (1, 0, 0, 0, 0, 65_535),
+    // The number of parents, also one that is in reach in its last 16 bits.
+    (1, 0, 0, 0, 3, 0),
+    (1, 0, 0, 0, 64, 0),
+    (1, 0, 0, 0, 65_537, 0),
+    // Parents that are not below their units.
+    (1, 0, 1, 0, 1, 0),
+    (1, 0, 0, 2, 2, 0),
+    (1, 0, 0, 65_535, 2, 1),
+    (1, 0, 256, 0, 1, 0),
+    // Such a parent, and a size or the length out of reach, too.
+    (0, 0, 1, 0, 1, 0),
+    (3, 0, 1, 0, 1, 0),
+    (1, 2, 1, 0, 1, 0),
+    (1, 0, 1, 0, 1, 5),
+    (1, 0, 1, 0, 3, 0),
+];
+
+fn censuses() -> String {
+    let mut lines = Lines::default();
+    for (m, d, first, second, count, length) in CENSUSES {
+        let mut parents = vec![first, second];
+        parents.resize(count, 0);
+        let (refusal, counts) = match census(m, d, &parents, length) {
+            Ok(counts) => (ACCEPTED, counts),
+            Err(refusal) => (refusal, Counts::default()),
+        };
+        lines.push(&[
+            u64::from(m),
+            u64::from(d),
+            count as u64,
+            u64::from(first),
+            u64::from(second),
+            u64::from(length),
+            u64::from(refusal),
+            counts.finished,
+            counts.busy,
+            counts.other,
+        ]);
+    }
+    lines.text
+}
+
+/// The table of all censuses, for a reader.
+fn census_table() -> String {
+    let heading = [
+        "slots", "delay", "parents", "length", "lists", "finished", "share", "busy", "share",
+        "other", "share",
+    ];
+    let mut table = aligned(heading.map(String::from));
+    for (name, parents) in [
+        ("-", &[][..]),
+        ("0", &[0]),
+        ("0 0", &[0, 0]),
+        ("0 1", &[0, 1]),
+    ] {
+        for (m, d) in [(1, 0), (1, 1), (2, 0), (2, 1)] {
+            table.push('\n');
+            for length in 0..=4 {
+                let counts = census(m, d, parents, length).expect("a board in reach");
+                table += &aligned(census_row(m, d, name, length, counts));
+            }
+        }
+    }
+    table
+}
+
+fn census_row(m: u16, d: u16, parents: &str, length: u16, counts: Counts) -> [String; 11] {
+    let lists = counts.lists();
+    [
+        m.to_string(),
+        d.to_string(),
+        parents.to_string(),
+        length.to_string(),
+        lists.to_string(),
+        counts.finished.to_string(),
+        share_of(counts.finished, lists),
+        counts.busy.to_string(),
+        share_of(counts.busy, lists),
+        counts.other.to_string(),
+        share_of(counts.other, lists),
+    ]
+}
+
+/// A count in percent of the whole, to the nearest tenth, a tie up.
+fn share_of(count: u64, whole: u64) -> String {
+    // Half of the whole more before the division, so that cutting off rounds.
+    let tenths = (2_000 * count + whole) / (2 * whole);
+    format!("{}.{}%", tenths / 10, tenths % 10)
+}
+
+/// A line of the census, its cells filled up to their widths.
+fn aligned(cells: [String; 11]) -> String {
+    const WIDTHS: [usize; 11] = [5, 7, 9, 8, 9, 11, 8, 11, 8, 11, 8];
+    let cell = |(cell, width)| format!("{cell:>width$}");
+    let cells: String = cells.iter().zip(WIDTHS).map(cell).collect();
+    cells + "\n"
 }
 
 /// Writes one line at a place, and gives the number of bytes written.

@@ -1,0 +1,5 @@
+pub mod Choices
+pub mod Sorts
+pub mod Counting
+pub mod Shares
+pub mod Claims
