@@ -46,19 +46,19 @@ use Rattle.rules.specs.declared.Verdict.{Verdict}
 use Rattle.rules.specs.declared.Verdict.the-variants.{Working, Finished, Refused}
 
 -- ---- the same list without the tests of soundness
-abbrev quickSteps : Events Board StepRecord
+abbrev pub quickSteps : Events Board StepRecord
 quickSteps = record { next = λ b r. soundStep b r .board; answer = λ b r. soundStep b r .answer }
 
-abbrev quickAfter : Board → List StepRecord → Board
+abbrev pub quickAfter : Board → List StepRecord → Board
 quickAfter b rs = afterAll quickSteps b rs
 
-abbrev quickAnswers : Board → List StepRecord → List ℕ
+abbrev pub quickAnswers : Board → List StepRecord → List ℕ
 quickAnswers b rs = allAnswers quickSteps b rs
 
-quick-after : (b : Board) (rs : List StepRecord) → Sound b → after b rs ≡ quickAfter b rs
+pub quick-after : (b : Board) (rs : List StepRecord) → Sound b → after b rs ≡ quickAfter b rs
 quick-after = same-after steps quickSteps Sound step-keeps-sound (λ b r h. ap (λ (o : Outcome). o .board) (step-sound b r h))
 
-quick-answers : (b : Board) (rs : List StepRecord) → Sound b → answers b rs ≡ quickAnswers b rs
+pub quick-answers : (b : Board) (rs : List StepRecord) → Sound b → answers b rs ≡ quickAnswers b rs
 quick-answers = same-answers steps quickSteps Sound step-keeps-sound (λ b r h. ap (λ (o : Outcome). o .board) (step-sound b r h)) (λ b r h. ap (λ (o : Outcome). o .answer) (step-sound b r h))
 
 -- ---- a test of an attained bound that computes, and what it shows

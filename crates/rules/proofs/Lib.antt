@@ -17,4 +17,7 @@ pub mod VerdictLaws
 pub mod LetterLaws
 pub mod AnswerLaws
 pub mod ExchangeLaws
+pub mod OrderLaws
+pub mod EitherOrder
 pub mod CaseRows
+pub mod PairRows

@@ -6,6 +6,9 @@ pub mod Accepted
 pub mod CountFits
 pub mod StepFits
 pub mod AcceptedChanges
+pub mod SpotLaws
+pub mod ReachLaws
+pub mod TouchLaws
 pub mod CountLaws
 pub mod ListLaws
 pub mod FinishedLaws

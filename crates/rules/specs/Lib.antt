@@ -19,5 +19,7 @@ pub mod Drains
 pub mod Guarantee
 pub mod Verdicts
 pub mod Runs
+pub mod Orders
 pub mod Exchanges
 pub mod Cases
+pub mod PairCases

@@ -3,6 +3,7 @@ pub mod Sheet
 pub mod Sound
 pub mod Depths
 pub mod Steps
+pub mod Touching
 pub mod Lists
 pub mod Finished
 pub mod Drains

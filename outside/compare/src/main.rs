@@ -1,6 +1,7 @@
 //! Compares the proved code with the reference over generated scripts.
 //!
-//! `compare SCRIPTS [SEED]`: the library, listing for listing and line for line, over as many scripts as asked for.
+//! `compare SCRIPTS [SEED]`: the library, listing for listing and line for line, over as many scripts as asked for, and
+//! over those scripts with lines exchanged that may come in either order.
 //! `compare SCRIPTS SEED PROGRAM`: the program on as many scripts, and on scripts at the edges of what it reads.
 //! The seed is printed; a difference prints the script and ends the run.
 
@@ -22,15 +23,22 @@ fn library(count: u64, seed: u64) -> ExitCode {
     println!("compare: the library, {count} scripts from seed {seed}");
     let mut out = Vec::new();
     let mut bytes = 0u64;
+    let mut exchanges = listings::Exchanges::default();
     for index in 0..count {
         let script = scripts::script(seed, index);
+        let expected = reference::list(&script);
         let lines = || reference::script_lines(&script).find_map(listings::line_difference);
-        if let Some(what) = listings::difference(&script, &mut out).or_else(lines) {
+        let found = listings::difference(&script, &expected, &mut out)
+            .or_else(lines)
+            .or_else(|| listings::exchange_difference(&script, index, &expected, &mut out, &mut exchanges));
+        if let Some(what) = found {
             return report(&format!("script {index} of seed {seed}: {what}"), &script);
         }
         bytes += script.len() as u64;
     }
     println!("compare: no difference in {count} scripts of {bytes} bytes");
+    let listings::Exchanges { single, tidied, many } = exchanges;
+    println!("compare: no difference after {single} exchanges of two lines, nor in {tidied} scripts after {many} more");
     ExitCode::SUCCESS
 }
 

@@ -8,6 +8,8 @@
 //! * [`list`]: the listing of a whole script, bytes to bytes.
 //! * [`tell_rows`]: what a program is to tell for a file of cases.
 //! * [`census`]: how many short lists of steps leave a board finished.
+//! * [`touched`], [`independent`]: which two steps may come in either order.
+//! * [`tell_orders`]: what a program is to tell for a file of such pairs.
 //!
 //! Every refusal is the number that the scope document or a change request
 //! gives it, see [`refusal`].
@@ -15,6 +17,7 @@
 mod board;
 mod census;
 mod listing;
+mod orders;
 pub mod refusal;
 mod rounds;
 mod rows;
@@ -29,6 +32,7 @@ pub use listing::{
     list, list_into, listing_length, script_lines, walk, write_heading, write_listing_line,
     HEADING, SCRIPT_LIMIT,
 };
+pub use orders::{independent, tell_orders, touched, Touched};
 pub use rounds::{Finding, Round, Rounds};
 pub use rows::tell_rows;
 pub use script::{

@@ -12,14 +12,14 @@ pub const WORDS: [&[u8]; 8] = [
 ];
 
 #[derive(Clone, Copy)]
-enum Letter {
+pub(crate) enum Letter {
     Unit,
     Other,
     Slot,
 }
 
 impl Letter {
-    fn of(self, step: &mut Step) -> &mut u16 {
+    pub(crate) fn of(self, step: &mut Step) -> &mut u16 {
         match self {
             Letter::Unit => &mut step.unit,
             Letter::Other => &mut step.other,
@@ -29,7 +29,7 @@ impl Letter {
 }
 
 /// The arguments of each kind of step, in the order in which they stand.
-fn letters(kind: u16) -> &'static [Letter] {
+pub(crate) fn letters(kind: u16) -> &'static [Letter] {
     match kind {
         Step::START | Step::REST | Step::TICK => &[Letter::Unit],
         Step::SEND => &[Letter::Unit, Letter::Other, Letter::Slot],

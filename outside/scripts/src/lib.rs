@@ -4,6 +4,8 @@
 //! * [`check_listing`]: what holds of every listing, whoever wrote it.
 //! * [`Statistics`]: what a set of scripts has met, to see that the scripts
 //!   walk the state space and meet every refusal that a script can meet.
+//! * [`exchanges`], [`exchanged`], [`tidied`]: scripts with neighbouring lines
+//!   exchanged that may come in either order.
 //! * [`EventList`]: a list of steps, beginnings and visits. A script has no words
 //!   for the last two.
 //!
@@ -14,6 +16,7 @@
 mod check;
 mod damage;
 mod events;
+mod exchanges;
 mod forms;
 mod random;
 mod reasons;
@@ -22,6 +25,7 @@ mod walker;
 
 pub use check::check_listing;
 pub use events::{Event, EventList};
+pub use exchanges::{exchanged, exchanges, through_other, tidied, Exchange};
 pub use random::Random;
 pub use statistics::{Statistics, REACHABLE};
 

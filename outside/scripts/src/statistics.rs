@@ -1,5 +1,6 @@
 //! What a set of scripts has met on the reference board.
 
+use crate::exchanges::exchanges;
 use crate::reasons::{line_reasons, step_reasons, unpadded, LINE_PAIRS, STEP_PAIRS};
 use reference::{
     is_padded, read_line, read_number, script_lines, walk, Board, Kind, Record, Slot, State, Step,
@@ -106,6 +107,11 @@ pub struct Statistics {
     pairs: BTreeMap<(u16, u16, u16), u64>,
     /// The same for lines, by whether the line is the first.
     line_pairs: BTreeMap<(bool, u16, u16), u64>,
+    /// Scripts with neighbouring lines that may be exchanged.
+    exchange_scripts: u64,
+    /// Such neighbours by their kinds, the lower first, and those of them in which
+    /// a send's v is a unit that the other step touches (M-107).
+    exchanges: BTreeMap<(u16, u16), (u64, u64)>,
     /// By length, as the bounds say.
     lengths: [u64; LENGTHS.len()],
     /// By n, M and d: see `fmt`.
@@ -130,6 +136,8 @@ impl Default for Statistics {
             not_ended: 0,
             pairs: BTreeMap::new(),
             line_pairs: BTreeMap::new(),
+            exchange_scripts: 0,
+            exchanges: BTreeMap::new(),
             lengths: [0; LENGTHS.len()],
             sizes: [[0; 6]; 3],
             most_finishes: 0,
@@ -185,6 +193,17 @@ impl Past {
             }
         }
     }
+}
+
+/// The kinds of two lines that may be exchanged: all but a start, which always
+/// changes the debt.
+fn exchange_kinds() -> impl Iterator<Item = (u16, u16)> {
+    let from = |first| (first..=Step::RELEASE).map(move |second| (first, second));
+    (Step::SEND..=Step::RELEASE).flat_map(from)
+}
+
+fn kind_words((first, second): (u16, u16)) -> [String; 2] {
+    [first, second].map(|kind| String::from_utf8_lossy(WORDS[usize::from(kind)]).into_owned())
 }
 
 fn class(bounds: &[usize], value: usize) -> usize {
@@ -243,6 +262,7 @@ impl Statistics {
             }
         }
         self.openings[usize::from(refusal)] += 1;
+        self.see_exchanges(script);
         self.most_finishes = self.most_finishes.max(past.finishes);
     }
 
@@ -279,6 +299,18 @@ impl Statistics {
         ];
         for (count, seen) in self.forms[usize::from(!first)].iter_mut().zip(seen) {
             *count += u64::from(seen);
+        }
+    }
+
+    fn see_exchanges(&mut self, script: &[u8]) {
+        let found = exchanges(script);
+        self.exchange_scripts += u64::from(!found.is_empty());
+        for exchange in found {
+            let (first, second) = (exchange.first.kind, exchange.second.kind);
+            let kinds = (first.min(second), first.max(second));
+            let (all, through_other) = self.exchanges.entry(kinds).or_default();
+            *all += 1;
+            *through_other += u64::from(exchange.through_other);
         }
     }
 
@@ -448,6 +480,11 @@ impl Statistics {
         100.0 * self.answered(0) as f64 / whole.max(1) as f64
     }
 
+    /// Neighbouring lines that may be exchanged.
+    pub fn exchanges(&self) -> u64 {
+        self.exchanges.values().map(|(all, _)| all).sum()
+    }
+
     /// What a script can meet and these did not.
     pub fn missing(&self) -> Vec<String> {
         let mut missing = vec![];
@@ -499,6 +536,12 @@ impl Statistics {
         for (word, row) in WORDS.iter().zip(&self.answers).skip(1) {
             if row[0] == 0 {
                 missing.push(format!("accepted {}", String::from_utf8_lossy(word)));
+            }
+        }
+        for kinds in exchange_kinds() {
+            if !self.exchanges.contains_key(&kinds) {
+                let [first, second] = kind_words(kinds);
+                missing.push(format!("{first} and {second} that may be exchanged"));
             }
         }
         missing
@@ -586,6 +629,16 @@ impl fmt::Display for Statistics {
         for (&(first, answer, also), count) in &self.line_pairs {
             let place = if first { "first" } else { "later" };
             writeln!(f, "  {place:<10}{answer} before {also}{count:>10}")?;
+        }
+        let (exchanges, scripts) = (self.exchanges(), self.exchange_scripts);
+        writeln!(
+            f,
+            "{exchanges} neighbouring lines that may be exchanged, in {scripts} scripts,"
+        )?;
+        writeln!(f, "and those where the other step touches a send's v:")?;
+        for (&kinds, (all, through_other)) in &self.exchanges {
+            let [first, second] = kind_words(kinds);
+            writeln!(f, "  {first:<10}{second:<10}{all:>10}{through_other:>10}")?;
         }
         writeln!(f, "most finishes in one script: {}", self.most_finishes)?;
         writeln!(f, "largest debt: {}", self.largest_debt)?;

@@ -11,7 +11,8 @@
 //! the last four, each behind a line with its name. `cases rows` reads cases from
 //! standard input and prints what is to be told for them; their format stands at
 //! the top of `rows.rs`. `cases census` prints the table of all censuses for a
-//! reader, in the form described last.
+//! reader, and `cases orders` reads pairs of steps from standard input and prints
+//! what they answer in either order; both forms are described last.
 //!
 //! # damaged, balanced, suspended
 //!
@@ -174,11 +175,34 @@
 //! are written as -. The lists are the sum of the three counts. A share is the
 //! count in percent of the lists, rounded to one decimal, a tie up, and %. Numbers
 //! are plain digits.
+//!
+//! # orders
+//!
+//! Lines of standard input, each ended by byte 10, which the last may lack:
+//! - an empty line is skipped;
+//! - one that begins with # is told as it stands;
+//! - a script's board line opens the board on which the lines behind it build,
+//!   and is not told; a refused opening hands back a blank board;
+//! - `round` begins a counting round on that board and visits units 0 to n - 1 in
+//!   ascending order, each on the board that the visit before left, a refused
+//!   visit too; it is not told;
+//! - a line with a semicolon is a pair `FIRST;SECOND`, two step lines of a
+//!   script. The board on which the lines behind it build stays as it was;
+//! - a step line of a script is a step on that board, which it replaces by what
+//!   it leaves; it is not told.
+//!
+//! Any other line is an error, and nothing is told.
+//!
+//! Columns of a pair: the line as it stands, which has tabs of its own; `gives`;
+//! the answer of FIRST on the board, and of SECOND on the board that FIRST left;
+//! `and`; the answer of SECOND on the board, and of FIRST on the board that SECOND
+//! left; `same` where the boards after both orders are equal in every field, counts
+//! and rounds too, else `differ`.
 
 use reference::refusal::{Refusal, ACCEPTED, NO_ROOM, UNSOUND};
 use reference::{
-    census, list, tell_rows, write_heading, write_listing_line, write_step, Board, Counts, Kind,
-    Slot, State, Step, Unit, DEBT_LIMIT, FULL_WEIGHT, HEADING,
+    census, list, tell_orders, tell_rows, write_heading, write_listing_line, write_step, Board,
+    Counts, Kind, Slot, State, Step, Unit, DEBT_LIMIT, FULL_WEIGHT, HEADING,
 };
 use std::io::{self, Write};
 use std::process::ExitCode;
@@ -191,13 +215,14 @@ fn main() -> ExitCode {
     let lines = match word.as_str() {
         "boards" => named(&BOARDS),
         "calls" => named(&CALLS),
-        "rows" => rows(),
+        "rows" => told(tell_rows),
+        "orders" => told(tell_orders),
         "census" => Some(census_table()),
         name => table(name),
     };
     let Some(lines) = lines else {
         let tables = [&BOARDS[..], &CALLS].concat().join(" | ");
-        eprintln!("usage: cases [{tables} | boards | calls | rows | census]");
+        eprintln!("usage: cases [{tables} | boards | calls | rows | census | orders]");
         return ExitCode::FAILURE;
     };
     match io::stdout().lock().write_all(lines.as_bytes()) {
@@ -227,9 +252,9 @@ fn named(names: &[&str]) -> Option<String> {
 }
 
 /// What is to be told for the rows of standard input.
-fn rows() -> Option<String> {
+fn told(tell: fn(&str) -> Result<String, String>) -> Option<String> {
     let rows = io::read_to_string(io::stdin()).ok()?;
-    match tell_rows(&rows) {
+    match tell(&rows) {
         Ok(told) => Some(told),
         Err(line) => {
             eprintln!("cases: no case: {line}");
