@@ -31,10 +31,14 @@ enum ayokwelifu_kind {
     AYOKWELIFU_DELIVER = 4,
     AYOKWELIFU_REST = 5,
     AYOKWELIFU_TICK = 6,
-    AYOKWELIFU_RELEASE = 7
+    AYOKWELIFU_RELEASE = 7,
+    AYOKWELIFU_MOVE = 8 /* the new parent in other */
 };
 
-/* The numbers that refuse a call here. README.md has these and all others, with causes and cures. */
+/*
+ * The numbers that refuse a call here, and the one that a listing tells of a move alone. README.md has these and all
+ * others, with causes and cures.
+ */
 enum ayokwelifu_refusal {
     AYOKWELIFU_NO_SUCH_KIND = 16,
     AYOKWELIFU_LINE_TOO_LONG = 21,
@@ -43,7 +47,8 @@ enum ayokwelifu_refusal {
     AYOKWELIFU_NO_NUMBER = 24,
     AYOKWELIFU_BOARD_LINE = 25,
     AYOKWELIFU_NO_ROOM = 27,
-    AYOKWELIFU_PADDED_NUMBER = 28
+    AYOKWELIFU_PADDED_NUMBER = 28,
+    AYOKWELIFU_PARENT_NOT_LOWER = 47
 };
 
 /* No listing is longer, in bytes: a buffer of this size takes the listing of any script. */

@@ -20,18 +20,18 @@ use Rattle.rules.proofs.SoundLaws.{row-of, row-past}
 use Rattle.board.proofs.TestLaws.{false-not-true, refuted, passed}
 
 -- in the arm of its kind
-pub kind-arm : (n : ℕ) (ps : List ℕ) (y : Slot) (k : Kind) (r : Bool) → y .kind ≡ k → r ≡ tests (kindRow n ps y k) → r ≡ tests (kindRow n ps y (y .kind))
-kind-arm n ps y k r e = subst (λ (k′ : Kind). r ≡ tests (kindRow n ps y k′)) (sym e)
+pub kind-arm : (n : ℕ) (y : Slot) (k : Kind) (r : Bool) → y .kind ≡ k → r ≡ tests (kindRow n y k) → r ≡ tests (kindRow n y (y .kind))
+kind-arm n y k r e = subst (λ (k′ : Kind). r ≡ tests (kindRow n y k′)) (sym e)
 
 -- what is asked of slot j where `left` is left of the debt, as it is tested
 abbrev pub slotFacts : Sheet → ℕ → ℕ → List Fact
 slotFacts b left j = atMost (slotAt b j .weight) left ∷ slotRowOn b j (slotAt b j)
 
 -- ---- an empty slot and an idle unit are asked the same in use and past the entries in use
-pub empty-row : (n m : ℕ) (ps : List ℕ) (j : ℕ) (y : Slot) → isEmpty (y .kind) ≡ true → tests (kindRow n ps y Empty) ≡ tests (slotRow n m ps j y)
-empty-row n m ps j y = by-kind (y .kind) (ltb j m)
+pub empty-row : (n m j : ℕ) (y : Slot) → isEmpty (y .kind) ≡ true → tests (kindRow n y Empty) ≡ tests (slotRow n m j y)
+empty-row n m j y = by-kind (y .kind) (ltb j m)
   where
-    by-kind : (k : Kind) (t : Bool) → isEmpty k ≡ true → tests (kindRow n ps y Empty) ≡ tests (cond t (kindRow n ps y k) (holds (isEmpty k) ∷ kindRow n ps y Empty))
+    by-kind : (k : Kind) (t : Bool) → isEmpty k ≡ true → tests (kindRow n y Empty) ≡ tests (cond t (kindRow n y k) (holds (isEmpty k) ∷ kindRow n y Empty))
     by-kind Empty true e = refl
     by-kind Empty false e = refl
     by-kind Work t e = absurd (false-not-true false refl e)

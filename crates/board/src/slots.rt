@@ -5,71 +5,57 @@ use rules::GRANT;
 use rules::Kind;
 use rules::Slot;
 ghost use mathlib.Core.Path.{_≡_};
-ghost use mathlib.Core.List.{[]};
-ghost use lib.ListN.{getD};
 ghost use Rattle.rules.specs.Facts.{tests, oneIf};
 ghost use Rattle.rules.specs.Words.{isWork};
 ghost use Rattle.rules.specs.Sheets.Sound.{kindRow, slotRow};
 ghost use Rattle.board.specs.Passes.{pendsFor};
 
 fn empty_fits(y: Slot) -> bool
-    ensures { λ r. ⌜ r ≡ tests (kindRow 0 [] y Kind.Empty) ⌝ }
+    ensures { λ r. ⌜ r ≡ tests (kindRow 0 y Kind.Empty) ⌝ }
 {
     all3(y.from == 0, y.to == 0, y.weight == 0)
 }
 
 fn work_fits(y: Slot, n: u16) -> bool
-    ensures { λ r. ⌜ r ≡ tests (kindRow n [] y Kind.Work) ⌝ }
+    ensures { λ r. ⌜ r ≡ tests (kindRow n y Kind.Work) ⌝ }
 {
     all3(y.from < n, y.to < n, y.weight >= 1)
 }
 
-fn return_fits(y: Slot, n: u16, parents: &[u16]) -> bool
-    ensures { λ r. ⌜ r ≡ tests (kindRow n (now (parents .entry)) y Kind.Return) ⌝ }
+fn return_fits(y: Slot, n: u16) -> bool
+    ensures { λ r. ⌜ r ≡ tests (kindRow n y Kind.Return) ⌝ }
 {
-    let p = parent_of(parents, y.from);
-    all4(y.from >= 1, y.from < n, y.to == p, y.weight >= 1)
+    all4(y.from >= 1, y.from < n, y.to < y.from, y.weight >= 1)
 }
 
 fn request_fits(y: Slot, n: u16) -> bool
-    ensures { λ r. ⌜ r ≡ tests (kindRow n [] y Kind.Request) ⌝ }
+    ensures { λ r. ⌜ r ≡ tests (kindRow n y Kind.Request) ⌝ }
 {
     all3(y.from < n, y.to == 0, y.weight == 0)
 }
 
 fn supply_fits(y: Slot, n: u16) -> bool
-    ensures { λ r. ⌜ r ≡ tests (kindRow n [] y Kind.Supply) ⌝ }
+    ensures { λ r. ⌜ r ≡ tests (kindRow n y Kind.Supply) ⌝ }
 {
     all3(y.from == 0, y.to < n, y.weight == GRANT)
 }
 
-// A junk slot may be from any number; past the last entry the parent is 0.
-fn parent_of(parents: &[u16], u: u16) -> u16
-    ensures { λ r. ⌜ r ≡ getD (now (parents .entry)) u 0 ⌝ }
-{
-    let i = u as usize;
-    if i >= parents.len() {
-        return 0;
-    }
-    parents[i]
-}
-
-fn kind_fits(y: Slot, n: u16, parents: &[u16]) -> bool
-    ensures { λ r. ⌜ r ≡ tests (kindRow n (now (parents .entry)) y (y .kind)) ⌝ }
+fn kind_fits(y: Slot, n: u16) -> bool
+    ensures { λ r. ⌜ r ≡ tests (kindRow n y (y .kind)) ⌝ }
 {
     let k = y.kind;
     match k {
         Kind::Empty => empty_fits(y),
         Kind::Work => work_fits(y, n),
-        Kind::Return => return_fits(y, n, parents),
+        Kind::Return => return_fits(y, n),
         Kind::Request => request_fits(y, n),
         Kind::Supply => supply_fits(y, n),
     }
 }
 
 // Slot j, of which m are in use. An empty one is asked the same in use and past them.
-pub(crate) fn slot_fits(y: Slot, j: usize, m: u16, n: u16, parents: &[u16]) -> bool
-    ensures { λ r. ⌜ r ≡ tests (slotRow n m (now (parents .entry)) j y) ⌝ }
+pub(crate) fn slot_fits(y: Slot, j: usize, m: u16, n: u16) -> bool
+    ensures { λ r. ⌜ r ≡ tests (slotRow n m j y) ⌝ }
 {
     let k = y.kind;
     if k.is_empty() {
@@ -78,7 +64,7 @@ pub(crate) fn slot_fits(y: Slot, j: usize, m: u16, n: u16, parents: &[u16]) -> b
     if j >= m as usize {
         return false;
     }
-    kind_fits(y, n, parents)
+    kind_fits(y, n)
 }
 
 // The unit that a slot is a request from or a supply to; for any other slot a number that no unit has.

@@ -47,13 +47,12 @@ pub fn is_sound(b: Board) -> bool
     if !ranges_fit(b.n, b.m, b.delay, b.debt) {
         return false;
     }
-    let ps = b.parents;
     let mut left = b.debt;
     let mut work: u64 = 0;
     let mut pending = [0u16; 64];
     for j in 0..256 {
         let y = b.slots[j];
-        if !slot_fits(y, j, b.m, b.n, &ps) {
+        if !slot_fits(y, j, b.m, b.n) {
             return false;
         }
         if y.weight > left {

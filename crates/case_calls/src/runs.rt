@@ -18,7 +18,7 @@ fn step(kind: u16, other: u16) -> StepRecord {
 fn list() -> [StepRecord; 16] {
     let mut list = [step(0, 0); 16];
     list[0] = step(1, 0); // start 0
-    list[1] = step(8, 0); // 16
+    list[1] = step(8, 0); // move 0 0: 47
     list[2] = step(2, 1); // send 0 1 0
     list[3] = step(65535, 0); // 16
     list

@@ -45,6 +45,7 @@ fn steps() {
     later(b"rest\t1");
     later(b"tick\t1");
     later(b"release\t1\t2");
+    later(b"move\t2\t1");
     later(b"board\t2\t1\t0"); // 25
     later(b"board"); // 25, before 23
     later(b"board\t2\tx"); // 25, before 24
@@ -56,6 +57,8 @@ fn words() {
     later(b"\t1"); // 22
     later(b"star\t1"); // 22
     later(b"starts\t1"); // 22
+    later(b"mov\t2\t1"); // 22
+    later(b"moved\t2\t1"); // 22
     later(b"START\t1"); // 22
     later(b" start\t1"); // 22
     later(b"stop"); // 22, before 23
@@ -76,6 +79,8 @@ fn counts() {
     later(b"release\t1"); // 23
     later(b"request\t1\t2\t3"); // 23
     later(b"deliver\t1\t2"); // 23
+    later(b"move\t2"); // 23
+    later(b"move\t2\t1\t0"); // 23
 }
 
 fn numbers() {
@@ -131,6 +136,7 @@ fn padded_fields() {
     later(b"send\t01\t2\t"); // 28, and an empty field
     later(b"send\t\t02\t3"); // 28, and an empty field in front
     later(b"send\t65536\t2\t03"); // 28, and a number above 65,535
+    later(b"move\t2\t01"); // 28
     later(b"rest\t01\t2"); // 23, before 28
     later(b"board\t01\t1"); // 25, before 28
     later(b"stop\t01"); // 22, before 28
@@ -182,6 +188,7 @@ fn written() {
     write(step(5, 1, 9, 9), 4);
     write(step(6, 1, 9, 9), 5);
     write(step(7, 1, 9, 2), 0);
+    write(step(8, 2, 1, 9), 5);
     write(step(1, 65535, 0, 0), 0);
     write(step(1, 0, 0, 0), 8); // up to the buffer's end
 }
@@ -194,9 +201,10 @@ fn not_written() {
     write(step(1, 0, 0, 0), 18446744073709551615); // 27
     write(step(2, 65535, 65535, 65535), 0); // 27
     write(step(0, 0, 0, 0), 0); // 16
-    write(step(8, 0, 0, 0), 0); // 16
+    write(step(9, 0, 0, 0), 0); // 16
     write(step(257, 0, 0, 0), 0); // 16
-    write(step(8, 0, 0, 0), 17); // 16, before 27
+    write(step(9, 0, 0, 0), 17); // 16, before 27
+    write(step(8, 0, 0, 0), 17); // 27
 }
 
 fn main() {

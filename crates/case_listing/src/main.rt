@@ -48,6 +48,15 @@ fn countdown_goes_on() {
     );
 }
 
+// Unit 2 is moved while its return to unit 1 is under way (M-108): the return goes there all the same, and unit 1 has to give its weight
+// back. Then three moves that are refused, and one on the finished board.
+fn moved() {
+    show(
+        b"a unit moved while its return is under way",
+        b"board\t2\t0\t0\t1\nstart\t2\nrest\t2\nrelease\t2\t0\nmove\t2\t0\ndeliver\t0\nrelease\t1\t0\ndeliver\t0\nmove\t0\t0\nmove\t2\t2\nmove\t3\t0\nmove\t2\t1\n",
+    );
+}
+
 fn lines() {
     show(b"a last line without byte 10", b"board\t1\t0\nstart\t0");
     show(b"no line", b"");
@@ -148,6 +157,7 @@ fn rooms() {
 fn main() {
     whole_case();
     countdown_goes_on();
+    moved();
     lines();
     first_lines();
     later_lines();

@@ -20,7 +20,7 @@ const REFUSALS: [[u16; 4]; 16] = [
     [1, 0, 0, 0], // start 0: 37
     [2, 0, 2, 0], // send 0 2 0: 13
     [2, 0, 1, 2], // send 0 1 2: 14
-    [8, 0, 0, 0], // kind 8: 16
+    [9, 0, 0, 0], // kind 9: 16
     [4, 0, 0, 0], // deliver 0: 35
     [6, 0, 0, 0], // tick 0: 38
     [2, 0, 1, 0], // send 0 1 0
@@ -38,6 +38,23 @@ const REFUSALS: [[u16; 4]; 16] = [
 const REST_OF_IT: [[u16; 4]; 2] = [
     [7, 1, 0, 0], // release 1 0
     [4, 0, 0, 0], // deliver 0
+];
+
+// Moves among the steps (M-108), on three units in a chain: the return of unit 2 goes to unit 1, though unit 2 is under unit 0 by then.
+const MOVES: [[u16; 4]; 13] = [
+    [1, 2, 0, 0], // start 2
+    [8, 2, 0, 0], // move 2 0
+    [8, 2, 2, 0], // move 2 2: 47
+    [8, 3, 3, 0], // move 3 3: 13
+    [5, 2, 0, 0], // rest 2
+    [8, 2, 1, 0], // move 2 1
+    [7, 2, 0, 0], // release 2 0
+    [8, 2, 0, 0], // move 2 0
+    [4, 0, 0, 0], // deliver 0
+    [7, 1, 0, 1], // release 1 1
+    [4, 0, 0, 1], // deliver 1
+    [8, 2, 1, 0], // move 2 1
+    [8, 0, 0, 0], // move 0 0: 47
 ];
 
 // A step from its kind, unit, other and slot.
@@ -72,6 +89,10 @@ pub(crate) fn whole_case() -> [StepRecord; 16] {
 
 pub(crate) fn refusals() -> [StepRecord; 16] {
     list_of(&REFUSALS)
+}
+
+pub(crate) fn moves() -> [StepRecord; 16] {
+    list_of(&MOVES)
 }
 
 pub(crate) fn rest_of_it() -> [StepRecord; 16] {

@@ -1,5 +1,6 @@
 // Runs over a list: what the buffer holds after each, what it gives, and the debt and the state of the board after it.
 ghost use Prim.Native.Nat.{_≤_};
+use crate::lists::moves;
 use crate::lists::refusals;
 use crate::lists::rest_of_it;
 use crate::lists::whole_case;
@@ -76,4 +77,6 @@ pub(crate) fn all() {
     on_from(b, rest);
     b.debt = 16383;
     not_sound(b, rest);
+    let chain = board::open(2, 0, &[0, 1]).board;
+    run(b"moves in the list", chain, moves(), 13, 18);
 }

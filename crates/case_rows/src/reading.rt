@@ -32,8 +32,8 @@ fn number_at(line: &[u8], k: usize) -> u64 {
 
 // A kind by its word, or by its number.
 fn kind(word: &[u8]) -> u64 {
-    let k = place_of(word, &KINDS, 7);
-    if k < 7 {
+    let k = place_of(word, &KINDS, 8);
+    if k < 8 {
         return k as u64 + 1;
     }
     number(word)

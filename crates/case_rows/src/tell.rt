@@ -27,9 +27,9 @@ fn outcome(a: Board, out: Outcome, kept: &[u8]) -> Board {
     b
 }
 
-// The word of a step's kind; a kind outside 1 to 7 has only its number.
+// The word of a step's kind; a kind outside 1 to 8 has only its number.
 fn kind(k: u64) {
-    if 0 < k && k < 8 {
+    if 0 < k && k < 9 {
         word(&KINDS, k as usize - 1);
     } else {
         number(k);

@@ -59,7 +59,7 @@ pub(crate) const CASES: [u8; 157] =
     *b"open\tchain\tdepth\tsizes\tparent\tdebt\tidle unit\tactive unit\twaiting unit\tempty slot\twork slot\treturn slot\trequest slot\tsupply slot\tcounts\tround\tmark\tbegin\tvisit";
 
 // The kinds of a step, from 1.
-pub(crate) const KINDS: [u8; 44] = *b"start\tsend\trequest\tdeliver\trest\ttick\trelease";
+pub(crate) const KINDS: [u8; 49] = *b"start\tsend\trequest\tdeliver\trest\ttick\trelease\tmove";
 
 // The place of a word among so many that are parted by tabs; behind the last where it is not among them.
 pub(crate) fn place_of(word: &[u8], words: &[u8], count: usize) -> usize {

@@ -19,9 +19,9 @@ use Rattle.rules.proofs.JudgeLaws.{Judged, passed, failed, judged}
 use Rattle.rules.specs.declared.Kind.{Kind}
 use Rattle.rules.specs.declared.Kind.the-variants.{Empty, Work, Return, Request, Supply}
 use Rattle.rules.specs.declared.Action.{Action}
-use Rattle.rules.specs.declared.Action.the-variants.{Unknown, Start, Send, Request as RequestStep, Deliver, Rest, Tick, Release}
+use Rattle.rules.specs.declared.Action.the-variants.{Unknown, Start, Send, Request as RequestStep, Deliver, Rest, Tick, Release, Move}
 use Rattle.rules.specs.declared.Effect.{Effect}
-use Rattle.rules.specs.declared.Effect.the-variants.{Refused, OnUnit, OnSlot, OnBoth}
+use Rattle.rules.specs.declared.Effect.the-variants.{Refused, OnUnit, OnSlot, OnBoth, OnParent}
 use Rattle.rules.specs.declared.UnitRecord.{UnitRecord}
 use Rattle.rules.specs.declared.Slot.{Slot}
 use Rattle.rules.specs.declared.Board.{Board}
@@ -33,6 +33,7 @@ Short (Refused k) = k < 100
 Short (OnUnit x debt) = Unit {0}
 Short (OnSlot y debt) = Unit {0}
 Short (OnBoth x y debt) = Unit {0}
+Short (OnParent p) = Unit {0}
 
 either-short : (t : Bool) (e f : Effect) → Short e → Short f → Short (cond t e f)
 either-short true e f p q = p
@@ -54,6 +55,7 @@ done-short debt d r x p y Deliver = delivered-short debt d x y (y .kind)
 done-short debt d r x p y Rest = either-short (eqb (r .unit) 0) _ _ tt tt
 done-short debt d r x p y Tick = tt
 done-short debt d r x p y Release = tt
+done-short debt d r x p y Move = tt
 
 -- a judgement of an effect
 judged-short : (cs : _) (e : Effect) → Judged Refused cs e → Short e → Short (judge Refused cs e)
@@ -74,6 +76,7 @@ applied-short b a u s (Refused k) p = p
 applied-short b a u s (OnUnit x debt) p = omega arith
 applied-short b a u s (OnSlot y debt) p = omega arith
 applied-short b a u s (OnBoth x y debt) p = omega arith
+applied-short b a u s (OnParent q) p = omega arith
 
 pub answer-short : (b : Board) (r : StepRecord) → step b r .answer < 100
 unfolding step soundStep sheetSoundStep effect

@@ -21,11 +21,11 @@ use Rattle.rules.specs.Sheets.Steps.{effect, applied, soundStep as sheet
 use Rattle.rules.specs.Steps.{soundStep, step}
 use Rattle.rules.specs.Events.{Events, afterAll, allAnswers, DrainOf}
 use Rattle.rules.specs.Lists.{steps, after, answers}
-use Rattle.rules.specs.Sheets.Lists.{startBy}
+use Rattle.rules.specs.Sheets.Lists.{undrainedBy}
 use Rattle.rules.specs.Sheets.Finished.{toldFrom}
 use Rattle.rules.specs.Sheets.Drains.{waitingUnits, returnsUnderWay, drainBound as sheetBound}
 use Rattle.rules.specs.Drains.{Quiet, Drain, drainBound}
-use Rattle.rules.specs.Cases.{Row, shares, judges, opens, runs, attains, Attained, Right, AllRight, rows, stuckBoard, Stuck, deliver}
+use Rattle.rules.specs.Cases.{Row, shares, judges, opens, runs, drains, Drained, Right, AllRight, rows, stuckBoard, Stuck, deliver}
 use Rattle.rules.proofs.FactLaws.{true-not-false, same-is, each-claims, each-at, factBy}
 use Rattle.rules.proofs.SoundLaws.{sound-claims, below-or-not}
 use Rattle.rules.proofs.Views.{step-sound}
@@ -36,7 +36,7 @@ use Rattle.rules.proofs.Projection.{list-keeps-sound}
 use Rattle.rules.proofs.FinishedLaws.{verdict-sound}
 use Rattle.rules.proofs.Theorem.{opening-sound}
 use Rattle.rules.specs.declared.Action.{Action}
-use Rattle.rules.specs.declared.Action.the-variants.{Unknown, Start, Send, Request as RequestStep, Deliver, Rest, Tick, Release}
+use Rattle.rules.specs.declared.Action.the-variants.{Unknown, Start, Send, Request as RequestStep, Deliver, Rest, Tick, Release, Move}
 use Rattle.rules.specs.declared.UnitRecord.{UnitRecord}
 use Rattle.rules.specs.declared.Slot.{Slot}
 use Rattle.rules.specs.declared.Board.{Board}
@@ -61,15 +61,15 @@ quick-after = same-after steps quickSteps Sound step-keeps-sound (λ b r h. ap (
 pub quick-answers : (b : Board) (rs : List StepRecord) → Sound b → answers b rs ≡ quickAnswers b rs
 quick-answers = same-answers steps quickSteps Sound step-keeps-sound (λ b r h. ap (λ (o : Outcome). o .board) (step-sound b r h)) (λ b r h. ap (λ (o : Outcome). o .answer) (step-sound b r h))
 
--- ---- a test of an attained bound that computes, and what it shows
+-- ---- a test of a drain and its bound that computes, and what it shows
 abbrev zeroRow : ℕ → ℕ → List Fact
 zeroRow i k = equal k 0 ∷ []
 
-abbrev noStartRow : ℕ → StepRecord → List Fact
-noStartRow i r = equal (startBy (actionOf (r .kind))) 0 ∷ []
+abbrev drainedRow : ℕ → StepRecord → List Fact
+drainedRow i r = equal (undrainedBy (actionOf (r .kind))) 0 ∷ []
 
--- a list whose answers are all 0 and that has no start is a drain
-drain-of : (b : Board) (rs : List StepRecord) → Each zeroRow (answers b rs) → Each noStartRow rs → Drain b rs
+-- a list whose answers are all 0 and that has neither start nor move is a drain
+drain-of : (b : Board) (rs : List StepRecord) → Each zeroRow (answers b rs) → Each drainedRow rs → Drain b rs
 unfolding Each DrainOf allAnswers
 drain-of b [] a n = tt
 drain-of b (r ∷ rs) a n = ((a .0 .0, n .0 .0), drain-of (step b r .board) rs (a .1) (n .1))
@@ -91,21 +91,21 @@ quiet-of b u s = record {
       (λ l. ap (λ (y : Slot). isWork (y .kind)) (List·getD-eq-default (b .slots) blankSlot l));
 }
 
-attainedRow : Board → List StepRecord → List Fact
-attainedRow b rs =
+drainRow : Board → List StepRecord → ℕ → List Fact
+drainRow b rs k =
     holds (each idleRow (b .units))
     ∷ holds (each noWorkRow (b .slots))
     ∷ holds (each zeroRow (quickAnswers b rs))
-    ∷ holds (each noStartRow rs)
-    ∷ equal (length rs) (drainBound b)
+    ∷ holds (each drainedRow rs)
+    ∷ equal (drainBound b) k
     ∷ []
 
-attained-right : (b : Board) (rs : List StepRecord) → Sound b → Claims (attainedRow b rs) → Attained b rs
-unfolding attainedRow
-attained-right b rs h c = record {
+drain-right : (b : Board) (rs : List StepRecord) (k : ℕ) → Sound b → Claims (drainRow b rs k) → Drained b rs k
+unfolding drainRow
+drain-right b rs k h c = record {
   quiet = quiet-of b (c .0) (c .1 .0);
-  drain = drain-of b rs (subst (λ (ks : List ℕ). Each zeroRow ks) (sym (quick-answers b rs h)) (each-claims zeroRow _ (c .1 .1 .0))) (each-claims noStartRow rs (c .1 .1 .1 .0));
-  attained = c .1 .1 .1 .1 .0;
+  drain = drain-of b rs (subst (λ (ks : List ℕ). Each zeroRow ks) (sym (quick-answers b rs h)) (each-claims zeroRow _ (c .1 .1 .0))) (each-claims drainedRow rs (c .1 .1 .1 .0));
+  bounds = c .1 .1 .1 .1 .0;
 }
 
 -- ---- a test of a row that computes, and what it shows
@@ -132,7 +132,7 @@ rowRow (runs m d ps rs ks v) =
     ∷ holds (sameList (quickAnswers (opening m d ps .board) rs) ks)
     ∷ holds (tellsBy (eqb (quickAfter (opening m d ps .board) rs .debt) 0) v)
     ∷ []
-rowRow (attains m d ps rs ds) = equal (opening m d ps .answer) 0 ∷ attainedRow (quickAfter (opening m d ps .board) rs) ds
+rowRow (drains m d ps rs ds k) = equal (opening m d ps .answer) 0 ∷ drainRow (quickAfter (opening m d ps .board) rs) ds k
 
 row-right : (row : Row) → Claims (rowRow row) → Right row
 unfolding rowRow
@@ -146,11 +146,11 @@ row-right (runs m d ps rs ks v) c =
       quick-answers f rs h ∙ same-is _ ks (c .1 .0),
       verdict-sound (after f rs) (list-keeps-sound f rs h) ∙ ap (λ (b : Board). toldFrom (b .debt)) (quick-after f rs h) ∙ tells-by _ v (c .1 .1 .0),
     )
-row-right (attains m d ps rs ds) c =
+row-right (drains m d ps rs ds k) c =
     let f : Board = opening m d ps .board in
     let h : Sound f = opening-sound m d ps (c .0) .0 in
     let quick = quick-after f rs h in
-    (c .0, subst (λ (b : Board). Attained b ds) (sym quick) (attained-right (quickAfter f rs) ds (subst Sound quick (list-keeps-sound f rs h)) (c .1)))
+    (c .0, subst (λ (b : Board). Drained b ds k) (sym quick) (drain-right (quickAfter f rs) ds k (subst Sound quick (list-keeps-sound f rs h)) (c .1)))
 
 rows-right : (rs : List Row) → Each (λ i row. rowRow row) rs → AllRight rs
 unfolding Each
@@ -159,7 +159,7 @@ rows-right (row ∷ rs) c = (row-right row (c .0), rows-right rs (c .1))
 
 -- one computed test over the whole table
 pub cases : AllRight rows
-unfolding rows rowRow attainedRow idleRow noWorkRow sameList tellsBy each sumOf lowerParents opening fresh blankBoard recordRule effect applied sheetSoundStep soundStep afterAll allAnswers sheetBound waitingUnits returnsUnderWay deepest depth depthWithin
+unfolding rows rowRow drainRow idleRow noWorkRow sameList tellsBy each sumOf lowerParents opening fresh blankBoard recordRule effect applied sheetSoundStep soundStep afterAll allAnswers sheetBound waitingUnits returnsUnderWay deepest depth depthWithin
 cases = rows-right rows (each-claims (λ i row. rowRow row) rows refl)
 
 -- ---- the stuck board
@@ -183,6 +183,7 @@ stuck-refuses r Deliver c = at-zero (r .slot) (shown 14 c) (λ i. Claim (factBy 
 stuck-refuses r Rest c = at-zero (r .unit) (shown 13 c) (λ i. unitAt (view stuckBoard) i .suspended ≡ false) (shown 32 c) true-not-false
 stuck-refuses r Tick c = at-zero (r .unit) (shown 13 c) (λ i. isWaiting (unitAt (view stuckBoard) i .state) ≡ true) (shown 38 c) (λ e. true-not-false (sym e))
 stuck-refuses r Release c = at-zero (r .unit) (shown 13 c) (λ i. isWaiting (unitAt (view stuckBoard) i .state) ≡ true) (shown 38 c) (λ e. true-not-false (sym e))
+stuck-refuses r Move c = at-zero (r .unit) (shown 13 c) (λ i. r .other < i) (shown 47 c) not-suc-le-zero
 
 pub stuck : Stuck stuckBoard
 unfolding stuckBoard recordRule effect applied sheetSoundStep soundStep

@@ -11,8 +11,8 @@ use Rattle.rules.specs.Steps.{roundsKept, step}
 use Rattle.rules.specs.Lists.{steps, takes, events}
 use Rattle.rules.specs.Sheets.Sheet.{Sheet}
 use Rattle.rules.specs.Sheets.Steps.{step as sheetStep}
-use Rattle.rules.specs.Sheets.Touching.{Spot, touched, among}
-use Rattle.rules.specs.Orders.{DebtKept, Independent, IndependentCommute, NeighboursOf, as-it-was, exchange, TidyingOf, Neighbours, Tidying}
+use Rattle.rules.specs.Sheets.Touching.{Spot, touchedBy, touched, among}
+use Rattle.rules.specs.Orders.{DebtKept, Independent, IndependentCommute, MovesTouchUnit, NeighboursOf, as-it-was, exchange, TidyingOf, Neighbours, Tidying}
 use Rattle.rules.proofs.Views.{step-shown, accepted-sound}
 use Rattle.rules.proofs.EventSound.{answer-shown, other-leaves, step-keeps-sound}
 use Rattle.rules.proofs.Projection.{step-view}
@@ -114,6 +114,10 @@ independent-commute b q r i =
       },
       same-end steps groundOn entryOn touches Sound steps-local b q r h first second separate,
     )
+
+pub moves-touch-unit : MovesTouchUnit
+unfolding MovesTouchUnit
+moves-touch-unit b r m = ap (touchedBy (view b) r) m
 
 -- ---- lists of events, of which steps are some
 module _ {E : Type 0} (ev : Events Board E) (taken : StepRecord → E) (next-is : (b : Board) (r : StepRecord) → ev .next b (taken r) ≡ step b r .board)

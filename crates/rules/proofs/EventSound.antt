@@ -18,7 +18,7 @@ use Rattle.rules.proofs.EventLaws.{accepted-or-not}
 use Rattle.rules.proofs.RoundSound.{none-sound, begun-sound, grown-sound, visited-sound}
 use Rattle.rules.proofs.Views.{step-shown, refused-keeps, begin-sound, VisitTells, visited, unvisited, visit-tells}
 use Rattle.rules.proofs.Sheets.ListLaws as of-sheets
-use Rattle.rules.proofs.Sheets.CountLaws.{step-moves}
+use Rattle.rules.proofs.Sheets.CountLaws.{step-advances}
 use Rattle.rules.specs.declared.Action.the-variants.{Start}
 use Rattle.rules.specs.declared.Rounds.{Rounds}
 use Rattle.rules.specs.declared.Board.{Board}
@@ -51,7 +51,7 @@ module _ (b : Board) (r : StepRecord) (h : Sound b) (z : sheetStep (view b) r .a
       by-start : (t : Bool) → isAction Start (actionOf (r .kind)) ≡ t → SoundRounds (seenOf left) (roundsKept (sheetStep (view b) r .answer) (actionOf (r .kind)) (b .rounds))
       by-start true e = subst (SoundRounds (seenOf left)) (sym (start-drops r (sheetStep (view b) r .answer) (b .rounds) z e)) (none-sound (seenOf left))
       by-start false e =
-          let m = step-moves (view b) r (h .sheet) z (ap oneIf e) in
+          let m = step-advances (view b) r (h .sheet) z (ap oneIf e) in
           subst (SoundRounds (seenOf left)) (sym (other-leaves r (sheetStep (view b) r .answer) (b .rounds) e)) (grown-sound (seenOf (view b)) (seenOf left) (b .rounds) (m .same-units) (m .created-grows) (m .processed-grows) (h .rounds))
 
   accepted-keeps : Sound (step b r .board)

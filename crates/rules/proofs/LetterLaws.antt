@@ -16,7 +16,7 @@ use Rattle.rules.specs.Sheets.Steps.{unitOf, effectBy, effect, applied, 
 use Rattle.rules.specs.Boards.{view}
 use Rattle.rules.specs.Steps.{onBoard, soundStep, step}
 use Rattle.rules.specs.declared.Action.{Action}
-use Rattle.rules.specs.declared.Action.the-variants.{Unknown, Start, Send, Request, Deliver, Rest, Tick, Release}
+use Rattle.rules.specs.declared.Action.the-variants.{Unknown, Start, Send, Request, Deliver, Rest, Tick, Release, Move}
 use Rattle.rules.specs.declared.Board.{Board}
 use Rattle.rules.specs.declared.StepRecord.{StepRecord}
 use Rattle.rules.specs.declared.Outcome.{Outcome}
@@ -35,6 +35,7 @@ by-action b r Deliver = refl
 by-action b r Rest = refl
 by-action b r Tick = refl
 by-action b r Release = refl
+by-action b r Move = refl
 
 pub record-kind : (k i : ℕ) (ls : List Letter) (xs : List ℕ) → recordFrom k i ls xs .kind ≡ k
 record-kind k i [] xs = refl
@@ -91,6 +92,7 @@ values-back k xs Deliver h = entries-all 1 0 xs h
 values-back k xs Rest h = entries-all 1 0 xs h
 values-back k xs Tick h = entries-all 1 0 xs h
 values-back k xs Release h = entries-all 2 0 xs h
+values-back k xs Move h = entries-all 2 0 xs h
 
 -- and it can be handed over where they can
 put-fits : (r : StepRecord) → Fits16 r → (f : Field) (x : ℕ) → x < 2 ^ 16 → Fits16 (put r f x)

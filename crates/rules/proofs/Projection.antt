@@ -13,7 +13,7 @@ use Rattle.rules.specs.Visits.{begin, visit}
 use Rattle.rules.specs.Lists.{steps, after, Event, takes, begins, visits, events, countBy}
 use Rattle.rules.specs.Sheets.Sheet.{Sheet}
 use Rattle.rules.specs.Sheets.Steps.{step as sheetStep}
-use Rattle.rules.specs.Sheets.Lists.{steps as sheetSteps, after as sheetAfter, startCount}
+use Rattle.rules.specs.Sheets.Lists.{steps as sheetSteps, after as sheetAfter, undrainedCount}
 use Rattle.rules.specs.Sheets.Finished.{verdict as sheetVerdict}
 use Rattle.rules.specs.Drains.{Drain}
 use Rattle.rules.specs.Guarantee.{sheets, boards, Longer, Drains}
@@ -81,11 +81,11 @@ unfolding afterAll
 steps-after b [] h = refl
 steps-after b (r ∷ rs) h = steps-after (step b r .board) rs (step-keeps-sound b r h) ∙ ap (λ (c : Sheet). sheetAfter c rs) (step-view b r h)
 
-pub drain-shown : (b : Board) (rs : List StepRecord) → Sound b → Drain b rs → DrainOf sheetSteps startCount (view b) rs
+pub drain-shown : (b : Board) (rs : List StepRecord) → Sound b → Drain b rs → DrainOf sheetSteps undrainedCount (view b) rs
 unfolding DrainOf
 drain-shown b [] h z = tt
 drain-shown b (r ∷ rs) h z =
-    ((sym (answer-shown b r h) ∙ z .0 .0, z .0 .1), subst (λ (c : Sheet). DrainOf sheetSteps startCount c rs) (step-view b r h) (drain-shown (step b r .board) rs (step-keeps-sound b r h) (z .1)))
+    ((sym (answer-shown b r h) ∙ z .0 .0, z .0 .1), subst (λ (c : Sheet). DrainOf sheetSteps undrainedCount c rs) (step-view b r h) (drain-shown (step b r .board) rs (step-keeps-sound b r h) (z .1)))
 
 longer-shown : (b : Board) → Sound b → Longer sheets (view b) → Longer boards b
 longer-shown b h l = record { way = l .way; there = l .there; fits = l .fits; drains = (answer-shown b _ h ∙ l .drains .0, l .drains .1) }

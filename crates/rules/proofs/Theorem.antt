@@ -1,37 +1,42 @@
--- The guarantee holds, for every accepted opening and every list of steps, beginnings and visits. On a finished board all was taken back, and every step but a start is refused.
+-- The guarantee holds, for every accepted opening and every list of steps, beginnings and visits. On a finished board all was taken back, and every step but a start or a move is refused.
 use mathlib.Core.Path.{_≡_, refl, sym, ap, subst, _∙_}
 use mathlib.Core.List.{List, [], _∷_, _++_}
 use Prim.Native.Nat.{ℕ, _+_, _*_}
 use native.Mathlib.Nat.{zero-mul}
 use native.Mathlib.Omega.{arith}
+use lib.Seq.{set-getD}
 use Rattle.rules.specs.Facts.{sumOf, oneIf}
 use Rattle.rules.specs.Words.{isActive, isWaiting, isWork, isReturn, blankUnit, blankSlot}
 use Rattle.rules.specs.Events.{Events, afterAll, DrainOf}
+use Rattle.rules.specs.Actions.{isAction}
+use Rattle.rules.specs.Sheets.Steps.{step as sheetStep}
 use Rattle.rules.specs.Sheets.Sheet.{Sheet}
 use Rattle.rules.specs.Sheets.Depths.{greatestDepth}
 use Rattle.rules.specs.Sheets.Lists.{startCount, grantCount, takenCount}
-use Rattle.rules.specs.Sheets.Finished.{Complete}
+use Rattle.rules.specs.Sheets.Finished.{toldFrom, Complete}
 use Rattle.rules.specs.Sheets.Drains.{Quiet, waitingUnits, returnsUnderWay, drainBound}
-use Rattle.rules.specs.Boards.{view}
+use Rattle.rules.specs.Boards.{view, boardOf}
 use Rattle.rules.specs.Sound.{Sound}
 use Rattle.rules.specs.Opening.{fresh, opening}
 use Rattle.rules.specs.Steps.{step}
-use Rattle.rules.specs.Lists.{after, Event, events, taking}
+use Rattle.rules.specs.Lists.{steps, after, Event, events, taking}
 use Rattle.rules.specs.Finished.{verdict}
-use Rattle.rules.specs.Guarantee.{boards, History, GuaranteedOf, GuaranteeOf, CarriesOf, eventHistory, Guaranteed, Guarantee, Carries, FinishedAllBack, FinishedRefuses, AcceptedChanges, ReturnsCountLess}
+use Rattle.rules.specs.Guarantee.{boards, History, GuaranteedOf, GuaranteeOf, CarriesOf, eventHistory, Guaranteed, Guarantee, Carries, FinishedAllBack, FinishedRefuses, underParent, MovesChangeParent, MovesKeepVerdict, MovesNowhere, AcceptedChanges, BelowBound}
 use Rattle.rules.proofs.SumLaws.{sum-none}
-use Rattle.rules.proofs.EventLaws.{after-append, list-keeps}
+use Rattle.rules.proofs.EventLaws.{accepted-or-not, after-append, list-keeps}
 use Rattle.rules.proofs.FreshSound.{opening-passed, opening-fresh, fresh-sound}
-use Rattle.rules.proofs.Views.{accepted-sound}
-use Rattle.rules.proofs.EventSound.{answer-shown, event-keeps-sound}
-use Rattle.rules.proofs.FinishedLaws.{verdict-shown, finished-complete}
+use Rattle.rules.proofs.Views.{accepted-sound, step-shown, refused-keeps}
+use Rattle.rules.proofs.EventSound.{answer-shown, other-leaves, step-keeps-sound, event-keeps-sound}
+use Rattle.rules.proofs.FinishedLaws.{verdict-sound, verdict-shown, finished-complete}
 use Rattle.rules.proofs.Projection.{step-view, stepsOf, shown-after, shown-tally, drain-shown, drains-shown}
+use Rattle.rules.proofs.Sheets.Accepted.{AcceptedAs, accepted-as}
 use Rattle.rules.proofs.Sheets.AcceptedChanges as changing
 use Rattle.rules.proofs.Sheets.FinishedLaws.{finished-debt}
 use Rattle.rules.proofs.Sheets.DrainLaws as draining
 use Rattle.rules.proofs.Sheets.Theorem.{sheet-guarantee}
 use Rattle.rules.specs.declared.State.{State}
 use Rattle.rules.specs.declared.Kind.{Kind}
+use Rattle.rules.specs.declared.Action.the-variants.{Start, Move}
 use Rattle.rules.specs.declared.Board.{Board}
 use Rattle.rules.specs.declared.StepRecord.{StepRecord}
 use Rattle.rules.specs.declared.Verdict.the-variants.{Finished}
@@ -100,13 +105,13 @@ finished-all-back m d ps es e f =
     let g = guarantee m d ps es e in
     omega (arith, g .accounted, finished-owes (afterAll events (opening m d ps .board) es) (g .is-sound) f)
 
--- ---- a finished board is quiet and its bound on drains is 0, so no step but a start is accepted
+-- ---- a finished board is quiet and its bound on drains is 0, so no step but a start or a move is accepted
 complete-quiet : (b : Sheet) → Complete b → Quiet b
 complete-quiet b c = record { none-active = λ i. ap isActive (c .idle i); no-work = λ j. ap isWork (c .empty j) }
 
 complete-bound : (b : Sheet) → Complete b → drainBound b ≡ 0
 unfolding drainBound waitingUnits returnsUnderWay
-complete-bound b c = ap (λ (k : ℕ). k * ((b .delay + 2) * greatestDepth b)) none ∙ zero-mul _
+complete-bound b c = ap (λ (k : ℕ). k * ((b .delay + 2) * greatestDepth b + 1)) none ∙ zero-mul _
   where
     none : sumOf (λ i u. oneIf (isWaiting (u .state))) (b .units) + sumOf (λ j y. oneIf (isReturn (y .kind))) (b .slots) ≡ 0
     none = omega (
@@ -124,12 +129,36 @@ finished-refuses m d ps es r e f n z =
     omega (arith, g .drains (complete-quiet (view b) c) .bounded (r ∷ []) ((z, n), tt), complete-bound (view b) c)
 
 -- ---- what holds of a sheet's steps and drains holds of a board's
-pub accepted-changes : AcceptedChanges
-unfolding AcceptedChanges
-accepted-changes b r z e =
+pub moves-change-parent : MovesChangeParent
+unfolding MovesChangeParent
+moves-change-parent b r m z =
     let h : Sound b = accepted-sound b r z in
-    changing.accepted-changes (view b) r (sym (answer-shown b r h) ∙ z) (sym (step-view b r h) ∙ ap view e)
+    let told : AcceptedAs (view b) r Move = accepted-as (view b) r (h .sheet) Move m (sym (answer-shown b r h) ∙ z) in
+    ap (λ (o : Outcome). o .board) (step-shown b r h)
+    ∙ (λ i. boardOf (changing.move-does (view b) r told i) (other-leaves r (sheetStep (view b) r .answer) (b .rounds) (ap (isAction Start) m) i))
 
-pub returns-count-less : ReturnsCountLess
-unfolding ReturnsCountLess
-returns-count-less b h q rs z = draining.returns-count-less (view b) (h .sheet) q rs (drain-shown b rs h z)
+pub moves-keep-verdict : MovesKeepVerdict
+unfolding MovesKeepVerdict MovesChangeParent
+moves-keep-verdict b r m = accepted-or-not steps b r accepted (λ n. ap verdict (refused-keeps b r n))
+  where
+    accepted : step b r .answer ≡ 0 → verdict (step b r .board) ≡ verdict b
+    accepted z =
+        let h : Sound b = accepted-sound b r z in
+        verdict-sound (step b r .board) (step-keeps-sound b r h) ∙ ap (λ (c : Board). toldFrom (c .debt)) (moves-change-parent b r m z) ∙ sym (verdict-sound b h)
+
+pub accepted-changes : AcceptedChanges
+unfolding AcceptedChanges MovesChangeParent
+accepted-changes b r z = (only-moves, stays)
+  where
+    only-moves : step b r .board ≡ b → MovesNowhere b r
+    only-moves e =
+        let h : Sound b = accepted-sound b r z in
+        let m = changing.accepted-changes (view b) r (sym (answer-shown b r h) ∙ z) (sym (step-view b r h) ∙ ap view e) in
+        record { moves = m .0; same-parent = m .1 }
+
+    stays : MovesNowhere b r → step b r .board ≡ b
+    stays m = moves-change-parent b r (m .moves) z ∙ ap (underParent b (r .unit)) (m .same-parent) ∙ rw (set-getD (b .parents) (r .unit) 0)
+
+pub below-bound : BelowBound
+unfolding BelowBound
+below-bound b h q rs z = draining.below-bound (view b) (h .sheet) q rs (drain-shown b rs h z)

@@ -35,7 +35,7 @@ use Rattle.rules.proofs.Projection.{step-view, visit-view}
 use Rattle.rules.proofs.FreshSound.{opening-rounds}
 use Rattle.rules.proofs.Theorem.{opening-sound}
 use Rattle.rules.proofs.Sheets.SoundLaws.{unit-past, created-past, processed-past}
-use Rattle.rules.proofs.Sheets.CountLaws.{Moves, step-moves}
+use Rattle.rules.proofs.Sheets.CountLaws.{Advances, step-advances}
 use Rattle.rules.specs.declared.State.{State}
 use Rattle.rules.specs.declared.Action.the-variants.{Start}
 use Rattle.rules.specs.declared.Round.{Round}
@@ -127,7 +127,7 @@ module _ (b : Board) (r : StepRecord) (h : Sound b) (z : step b r .answer ≡ 0)
       by-start : (t : Bool) → isAction Start (actionOf (r .kind)) ≡ t → Happened b (takes r) (step b r .board)
       by-start true e = rounding.started z (ap oneIf e) (kept _ (start-drops r (sheetStep (view b) r .answer) (b .rounds) sheet-zero e))
       by-start false e =
-          let m : Moves (view b) (view (step b r .board)) = subst (Moves (view b)) (sym (step-view b r h)) (step-moves (view b) r (h .sheet) sheet-zero (ap oneIf e)) in
+          let m : Advances (view b) (view (step b r .board)) = subst (Advances (view b)) (sym (step-view b r h)) (step-advances (view b) r (h .sheet) sheet-zero (ap oneIf e)) in
           rounding.stepped (record {
             same-units = m .same-units;
             same-rounds = kept _ (other-leaves r (sheetStep (view b) r .answer) (b .rounds) e);

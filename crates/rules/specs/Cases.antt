@@ -52,27 +52,34 @@ tick u = asks 6 u 0 0
 abbrev pub release : ℕ → ℕ → StepRecord
 release u s = asks 7 u 0 s
 
+abbrev pub move : ℕ → ℕ → StepRecord
+move u p = asks 8 u p 0
+
 -- ---- a row: a share, the number by which a step is refused on its records (0 for none), an opening's answer, or an accepted opening and a list of steps with their answers and the verdict after
--- them, or with a drain after them that attains its bound
+-- them, or with a drain after them and the bound that it has there
 pub data Row : Type 0 where
   shares : ℕ → ℕ → Row
   judges : ℕ → UnitRecord → Slot → ℕ → Action → ℕ → Row
   opens : ℕ → ℕ → List ℕ → ℕ → Row
   runs : ℕ → ℕ → List ℕ → List StepRecord → List ℕ → Verdict → Row
-  attains : ℕ → ℕ → List ℕ → List StepRecord → List StepRecord → Row
+  drains : ℕ → ℕ → List ℕ → List StepRecord → List StepRecord → ℕ → Row
 
--- a drain from b that has as many steps as the bound
-pub record Attained (b : Board) (rs : List StepRecord) : Type 0 where
+-- a drain from b, and the bound
+pub record Drained (b : Board) (rs : List StepRecord) (bound : ℕ) : Type 0 where
   pub quiet : Quiet b
   pub drain : Drain b rs
-  pub attained : length rs ≡ drainBound b
+  pub bounds : drainBound b ≡ bound
+
+-- one that has as many steps as the bound
+abbrev pub attains : ℕ → ℕ → List ℕ → List StepRecord → List StepRecord → Row
+attains m d ps rs ds = drains m d ps rs ds (length ds)
 
 abbrev pub Right : Row → Type 0
 Right (shares w given) = share w ≡ given
 Right (judges debt x y made a k) = judge (λ j. j) (recordChecks debt x y made a) 0 ≡ k
 Right (opens m d ps k) = opening m d ps .answer ≡ k
 Right (runs m d ps rs ks v) = (opening m d ps .answer ≡ 0) × (answers (opening m d ps .board) rs ≡ ks) × (verdict (after (opening m d ps .board) rs) ≡ v)
-Right (attains m d ps rs ds) = (opening m d ps .answer ≡ 0) × (Attained (after (opening m d ps .board) rs) ds)
+Right (drains m d ps rs ds k) = (opening m d ps .answer ≡ 0) × (Drained (after (opening m d ps .board) rs) ds k)
 
 abbrev pub AllRight : List Row → Type 0
 AllRight [] = Unit {0}
@@ -150,14 +157,18 @@ rows =
     ∷ runs 1 2 (0 ∷ 1 ∷ []) (toReturn 0 fromTwo) (allAccepted 9 (40 ∷ 0 ∷ 40 ∷ 0 ∷ 39 ∷ 0 ∷ 0 ∷ [])) Finished
     ∷ runs 1 2 (0 ∷ 1 ∷ []) (toReturn 1 (release 1 0 ∷ tick 1 ∷ tick 1 ∷ release 1 0 ∷ deliver 0 ∷ [])) (allAccepted 10 (40 ∷ 0 ∷ 39 ∷ 0 ∷ 0 ∷ [])) Finished
     ∷ runs 1 2 (0 ∷ 1 ∷ []) (toReturn 2 (release 1 0 ∷ deliver 0 ∷ [])) (allAccepted 13 []) Finished
-    ∷ attains 2 1 (0 ∷ []) wholeToRest (tick 1 ∷ release 1 1 ∷ deliver 1 ∷ [])
-    ∷ attains 1 1 (0 ∷ 0 ∷ []) (start 1 ∷ send 1 2 0 ∷ deliver 0 ∷ rest 1 ∷ rest 2 ∷ []) (tick 1 ∷ release 1 0 ∷ deliver 0 ∷ tick 2 ∷ release 2 0 ∷ deliver 0 ∷ [])
+    ∷ drains 2 1 (0 ∷ []) wholeToRest (tick 1 ∷ release 1 1 ∷ deliver 1 ∷ []) 4
+    ∷ drains 1 1 (0 ∷ 0 ∷ []) (start 1 ∷ send 1 2 0 ∷ deliver 0 ∷ rest 1 ∷ rest 2 ∷ []) (tick 1 ∷ release 1 0 ∷ deliver 0 ∷ tick 2 ∷ release 2 0 ∷ deliver 0 ∷ []) 8
+    ∷ attains 2 0 (0 ∷ 1 ∷ []) (start 2 ∷ rest 2 ∷ release 2 0 ∷ move 2 0 ∷ []) (deliver 0 ∷ release 1 0 ∷ deliver 0 ∷ [])
+    ∷ runs 2 0 (0 ∷ 1 ∷ []) (start 2 ∷ move 1 0 ∷ move 0 0 ∷ move 2 2 ∷ move 2 3 ∷ move 3 0 ∷ move 3 3 ∷ move 2 0 ∷ rest 2 ∷ move 2 1 ∷ release 2 0 ∷ move 2 0 ∷ deliver 0 ∷ release 1 1 ∷ deliver 1 ∷ move 1 0 ∷ [])
+    (0 ∷ 0 ∷ 47 ∷ 47 ∷ 47 ∷ 13 ∷ 13 ∷ 0 ∷ 0 ∷ 0 ∷ 0 ∷ 0 ∷ 0 ∷ 0 ∷ 0 ∷ 0 ∷ []) Finished
     ∷ []
 
 -- ---- a sound board on which every step is refused: its one unit is suspended, and its request would pass 2^40. It is active, so no drain begins here
 unfoldable pub stuckBoard : Board
 stuckBoard =
     boardOf (changed (view (idleBoard 1 1 0 (replicate 64 0)))
+    (replicate 64 0)
     (record { weight = ceiling; countdown = 0; state = Active; suspended = true } ∷ replicate 63 blankUnit)
     (message Request 0 0 0 ∷ replicate 255 blankSlot)
     ceiling

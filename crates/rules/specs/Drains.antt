@@ -4,7 +4,7 @@ use Prim.Native.Nat.{ℕ}
 use Rattle.rules.specs.Events.{DrainOf}
 use Rattle.rules.specs.Boards.{view}
 use Rattle.rules.specs.Lists.{steps}
-use Rattle.rules.specs.Sheets.Lists.{startCount}
+use Rattle.rules.specs.Sheets.Lists.{undrainedCount}
 use Rattle.rules.specs.Sheets.Drains.{Quiet as QuietSheet, drainBound as sheetBound}
 use Rattle.rules.specs.declared.Board.{Board}
 use Rattle.rules.specs.declared.StepRecord.{StepRecord}
@@ -14,7 +14,7 @@ abbrev pub Quiet : Board → Type 0
 Quiet b = QuietSheet (view b)
 
 abbrev pub Drain : Board → List StepRecord → Type 0
-Drain b rs = DrainOf steps (λ c. startCount (view c)) b rs
+Drain b rs = DrainOf steps (λ c. undrainedCount (view c)) b rs
 
 abbrev pub drainBound : Board → ℕ
 drainBound b = sheetBound (view b)

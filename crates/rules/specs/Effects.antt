@@ -1,4 +1,4 @@
--- The seven steps on single records: for each its checks in the order of its bracket, then what an accepted step does.
+-- The eight steps on single records: for each its checks in the order of its bracket, then what an accepted step does.
 use mathlib.Core.Bool.{true, false, cond, _&&_, _||_}
 use mathlib.Core.List.{List, [], _∷_}
 use Prim.Native.Nat.{ℕ, _+_, _-_, _/_}
@@ -11,9 +11,9 @@ use Rattle.rules.specs.declared.State.the-variants.{Idle, Active, Waitin
 use Rattle.rules.specs.declared.Kind.{Kind}
 use Rattle.rules.specs.declared.Kind.the-variants.{Empty, Work, Return, Request, Supply}
 use Rattle.rules.specs.declared.Action.{Action}
-use Rattle.rules.specs.declared.Action.the-variants.{Unknown, Start, Send, Request as RequestStep, Deliver, Rest, Tick, Release}
+use Rattle.rules.specs.declared.Action.the-variants.{Unknown, Start, Send, Request as RequestStep, Deliver, Rest, Tick, Release, Move}
 use Rattle.rules.specs.declared.Effect.{Effect}
-use Rattle.rules.specs.declared.Effect.the-variants.{Refused, OnUnit, OnSlot, OnBoth}
+use Rattle.rules.specs.declared.Effect.the-variants.{Refused, OnUnit, OnSlot, OnBoth, OnParent}
 use Rattle.rules.specs.declared.UnitRecord.{UnitRecord}
 use Rattle.rules.specs.declared.Slot.{Slot}
 use Rattle.rules.specs.declared.StepRecord.{StepRecord}
@@ -135,7 +135,12 @@ releaseChecks x y =
 abbrev pub releaseEffect : ℕ → ℕ → ℕ → UnitRecord → Effect
 releaseEffect debt u p x = OnBoth blankUnit (message Return u p (x .weight)) debt
 
--- the rest of each bracket, on the records that the step may change: the unit x, which has created work so often, and the slot y. 16 kind outside 1 to 7, which no board passes
+-- move u p [13 for u alone, 47] (M-108): u's parent is p from then on, whatever u's state is. Both checks are the head's, so nothing is asked
+-- of the records
+abbrev pub moveEffect : ℕ → Effect
+moveEffect p = OnParent p
+
+-- the rest of each bracket, on the records that the step may change: the unit x, which has created work so often, and the slot y. 16 kind outside 1 to 8, which no board passes
 abbrev pub recordChecks : ℕ → UnitRecord → Slot → ℕ → Action → List Check
 recordChecks debt x y made Unknown = check (holds false) 16 ∷ []
 recordChecks debt x y made Start = startChecks debt made
@@ -145,6 +150,7 @@ recordChecks debt x y made Deliver = deliverChecks debt y
 recordChecks debt x y made Rest = restChecks x
 recordChecks debt x y made Tick = tickChecks x
 recordChecks debt x y made Release = releaseChecks x y
+recordChecks debt x y made Move = []
 
 -- what an accepted step does on them; p is the unit's parent. The refusal is not reached: the check before it refuses
 abbrev pub recordEffect : ℕ → ℕ → StepRecord → UnitRecord → ℕ → Slot → Action → Effect
@@ -156,6 +162,7 @@ recordEffect debt d r x p y Deliver = deliverEffect debt d x y (y .kind)
 recordEffect debt d r x p y Rest = restEffect debt d (r .unit) x
 recordEffect debt d r x p y Tick = tickEffect debt x
 recordEffect debt d r x p y Release = releaseEffect debt (r .unit) p x
+recordEffect debt d r x p y Move = moveEffect (r .other)
 
 -- on the records alone: the rest of the bracket, then the effect
 unfoldable pub recordRule : ℕ → ℕ → StepRecord → UnitRecord → ℕ → Slot → ℕ → Action → Effect
@@ -172,10 +179,11 @@ processedBy y a = oneIf (isAction Start a || (isAction Deliver a && isWork (y .k
 abbrev pub counted : Counts → Slot → Action → Counts
 counted k y a = record { created = k .created + createdBy a; processed = k .processed + processedBy y a }
 
--- what an effect leaves of the unit x, the slot y, the debt and the unit's counts k: a refusal leaves all of them, other effects what
--- they do not name; the counts of an accepted step are given
-abbrev pub changeOf : Effect → UnitRecord → Slot → ℕ → Counts → Counts → Change
-changeOf (Refused j) x y debt k _ = record { answer = j; debt = debt; unit = x; slot = y; counts = k }
-changeOf (OnUnit unit debt) x y _ _ k = record { answer = 0; debt = debt; unit = unit; slot = y; counts = k }
-changeOf (OnSlot slot debt) x y _ _ k = record { answer = 0; debt = debt; unit = x; slot = slot; counts = k }
-changeOf (OnBoth unit slot debt) x y _ _ k = record { answer = 0; debt = debt; unit = unit; slot = slot; counts = k }
+-- what an effect leaves of the unit x, its parent p, the slot y, the debt and the unit's counts k: a refusal leaves all of them, other
+-- effects what they do not name; the counts of an accepted step are given
+abbrev pub changeOf : Effect → UnitRecord → ℕ → Slot → ℕ → Counts → Counts → Change
+changeOf (Refused j) x p y debt k _ = record { answer = j; parent = p; debt = debt; unit = x; slot = y; counts = k }
+changeOf (OnUnit unit debt) x p y _ _ k = record { answer = 0; parent = p; debt = debt; unit = unit; slot = y; counts = k }
+changeOf (OnSlot slot debt) x p y _ _ k = record { answer = 0; parent = p; debt = debt; unit = x; slot = slot; counts = k }
+changeOf (OnBoth unit slot debt) x p y _ _ k = record { answer = 0; parent = p; debt = debt; unit = unit; slot = slot; counts = k }
+changeOf (OnParent parent) x _ y debt _ k = record { answer = 0; parent = parent; debt = debt; unit = x; slot = y; counts = k }

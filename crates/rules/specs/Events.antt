@@ -28,10 +28,11 @@ unfoldable pub tallyAll : {S E : Type 0} → Events S E → (S → E → ℕ) �
 tallyAll ev count s [] = 0
 tallyAll ev count s (e ∷ es) = cond (accepts ev s e) (count s e) 0 + tallyAll ev count (ev .next s e) es
 
--- drain, the rules' own term: "A drain is a list of accepted steps, none a start"; the list of no steps is one
+-- drain, the rules' own term: a list of accepted steps, "neither start nor move" (M-108): none that counts for what no drain has; the list
+-- of no steps is one
 abbrev pub DrainStepOf : {S E : Type 0} → Events S E → (S → E → ℕ) → S → E → Type 0
-DrainStepOf ev starts s e = (ev .answer s e ≡ 0) × (starts s e ≡ 0)
+DrainStepOf ev undrained s e = (ev .answer s e ≡ 0) × (undrained s e ≡ 0)
 
 unfoldable pub DrainOf : {S E : Type 0} → Events S E → (S → E → ℕ) → S → List E → Type 0
-DrainOf ev starts s [] = Unit {0}
-DrainOf ev starts s (e ∷ es) = DrainStepOf ev starts s e × DrainOf ev starts (ev .next s e) es
+DrainOf ev undrained s [] = Unit {0}
+DrainOf ev undrained s (e ∷ es) = DrainStepOf ev undrained s e × DrainOf ev undrained (ev .next s e) es

@@ -3,21 +3,24 @@ use mathlib.Core.Path.{_≡_}
 use mathlib.Core.List.{List, _++_}
 use mathlib.Core.Logic.{_↔_}
 use Prim.Native.Nat.{ℕ, _+_, _*_, _≤_, _<_, _^_}
-use lib.ListN.{length}
+use lib.ListN.{length, set}
 use Rattle.rules.specs.Words.{grant}
+use Rattle.rules.specs.Actions.{actionOf}
 use Rattle.rules.specs.Events.{Events, afterAll, tallyAll, DrainStepOf, DrainOf}
-use Rattle.rules.specs.Sheets.Sheet.{Sheet}
+use Rattle.rules.specs.Sheets.Sheet.{Sheet, parentAt}
 use Rattle.rules.specs.Sheets.Sound.{Sound as SoundSheet, weightOut}
-use Rattle.rules.specs.Sheets.Lists.{steps as sheetSteps, startCount, grantCount, takenCount}
+use Rattle.rules.specs.Sheets.Steps.{changed}
+use Rattle.rules.specs.Sheets.Lists.{steps as sheetSteps, startCount, undrainedCount, grantCount, takenCount}
 use Rattle.rules.specs.Sheets.Finished.{verdict as sheetVerdict, Complete}
-use Rattle.rules.specs.Sheets.Drains.{Quiet as QuietSheet, Way, There, wayStep, returnsUnderWay, drainBound}
-use Rattle.rules.specs.Boards.{view}
+use Rattle.rules.specs.Sheets.Drains.{Quiet as QuietSheet, Way, There, wayStep, waitingUnits, drainBound, shallowReturns}
+use Rattle.rules.specs.Boards.{view, boardOf}
 use Rattle.rules.specs.Sound.{Sound}
 use Rattle.rules.specs.Opening.{opening}
 use Rattle.rules.specs.Steps.{step}
 use Rattle.rules.specs.Lists.{steps, Event, events, countBy}
 use Rattle.rules.specs.Finished.{verdict}
 use Rattle.rules.specs.Drains.{Quiet, Drain}
+use Rattle.rules.specs.declared.Action.the-variants.{Move}
 use Rattle.rules.specs.declared.Board.{Board}
 use Rattle.rules.specs.declared.StepRecord.{StepRecord}
 use Rattle.rules.specs.declared.Verdict.{Verdict}
@@ -48,12 +51,12 @@ pub record Longer {S : Type 0} (M : Model S) (b : S) : Type 0 where
   pub way : Way
   pub there : There (M .shows b) way
   pub fits : Fits16 (wayStep (M .shows b) way)
-  pub drains : DrainStepOf (M .takes) (λ c. startCount (M .shows c)) b (wayStep (M .shows b) way)
+  pub drains : DrainStepOf (M .takes) (λ c. undrainedCount (M .shows c)) b (wayStep (M .shows b) way)
 
 -- every drain from b is bounded, and until finished some step makes it one longer
 pub record Drains {S : Type 0} (M : Model S) (b : S) : Type 0 where
-  pub bounded : (rs : List StepRecord) → DrainOf (M .takes) (λ c. startCount (M .shows c)) b rs → length rs ≤ drainBound (M .shows b)
-  pub unstuck : (rs : List StepRecord) → DrainOf (M .takes) (λ c. startCount (M .shows c)) b rs → (M .told (afterAll (M .takes) b rs) ≡ Finished → ⊥) → Longer M (afterAll (M .takes) b rs)
+  pub bounded : (rs : List StepRecord) → DrainOf (M .takes) (λ c. undrainedCount (M .shows c)) b rs → length rs ≤ drainBound (M .shows b)
+  pub unstuck : (rs : List StepRecord) → DrainOf (M .takes) (λ c. undrainedCount (M .shows c)) b rs → (M .told (afterAll (M .takes) b rs) ≡ Finished → ⊥) → Longer M (afterAll (M .takes) b rs)
 
 -- ---- over events of any kind, with what each counts for: starts, granted requests, and what unit 0 takes back
 pub record History (S E : Type 0) : Type 0 where
@@ -100,11 +103,11 @@ Guarantee = GuaranteeOf events eventHistory
 abbrev pub Carries : Board → List Event → Board → Type 0
 Carries b es c = CarriesOf events eventHistory b es c
 
--- on a finished board that a list left, every step but a start is refused
+-- on a finished board that a list left, every step but a start or a move is refused
 unfoldable pub FinishedRefuses : Type 0
 FinishedRefuses =
     (m d : ℕ) (ps : List ℕ) (es : List Event) (r : StepRecord) → opening m d ps .answer ≡ 0
-    → verdict (afterAll events (opening m d ps .board) es) ≡ Finished → startCount (view (afterAll events (opening m d ps .board) es)) r ≡ 0
+    → verdict (afterAll events (opening m d ps .board) es) ≡ Finished → undrainedCount (view (afterAll events (opening m d ps .board) es)) r ≡ 0
     → step (afterAll events (opening m d ps .board) es) r .answer ≡ 0 → ⊥
 
 -- on a finished board that a list left, unit 0 took back all that starts and grants brought in
@@ -114,13 +117,31 @@ FinishedAllBack =
     → tallyAll events (eventHistory .taken) (opening m d ps .board) es
     ≡ grant * (tallyAll events (eventHistory .starts) (opening m d ps .board) es + tallyAll events (eventHistory .grants) (opening m d ps .board) es)
 
--- an accepted step never leaves the board as it was
-unfoldable pub AcceptedChanges : Type 0
-AcceptedChanges = (b : Board) (r : StepRecord) → step b r .answer ≡ 0 → step b r .board ≡ b → ⊥
+-- ---- moves (M-108)
+-- the board with another parent for a unit
+abbrev pub underParent : Board → ℕ → ℕ → Board
+underParent b u p = boardOf (changed (view b) (set (b .parents) u p) (b .units) (b .slots) (b .debt) (b .created) (b .processed)) (b .rounds)
 
--- a return under way counts at least d + 1 less than the bound has for it: so many steps fewer has each drain, and with a return
--- under way none attains the bound
-unfoldable pub ReturnsCountLess : Type 0
-ReturnsCountLess =
+-- an accepted move changes nothing else: returns under way go where they were sent, and the debt stays
+unfoldable pub MovesChangeParent : Type 0
+MovesChangeParent = (b : Board) (r : StepRecord) → actionOf (r .kind) ≡ Move → step b r .answer ≡ 0 → step b r .board ≡ underParent b (r .unit) (r .other)
+
+-- a move leaves what is told of a board, so a finished one finished
+unfoldable pub MovesKeepVerdict : Type 0
+MovesKeepVerdict = (b : Board) (r : StepRecord) → actionOf (r .kind) ≡ Move → verdict (step b r .board) ≡ verdict b
+
+-- a move under the parent that the unit has
+pub record MovesNowhere (b : Board) (r : StepRecord) : Type 0 where
+  pub moves : actionOf (r .kind) ≡ Move
+  pub same-parent : r .other ≡ parentAt (view b) (r .unit)
+
+-- no other accepted step leaves the board as it was, and that one does
+unfoldable pub AcceptedChanges : Type 0
+AcceptedChanges = (b : Board) (r : StepRecord) → step b r .answer ≡ 0 → (step b r .board ≡ b) ↔ MovesNowhere b r
+
+-- a waiting unit counts at least 1 less than the bound has for it, a return to a unit that is not among the deepest at least d + 2 less: so
+-- many steps fewer has each drain, and with either on the board none attains the bound
+unfoldable pub BelowBound : Type 0
+BelowBound =
     (b : Board) → Sound b → Quiet b → (rs : List StepRecord) → Drain b rs
-    → (length rs + returnsUnderWay (view b) * (b .delay + 1) ≤ drainBound (view b)) × (1 ≤ returnsUnderWay (view b) → length rs < drainBound (view b))
+    → (length rs + (waitingUnits (view b) + shallowReturns (view b) * (b .delay + 2)) ≤ drainBound (view b)) × (1 ≤ waitingUnits (view b) + shallowReturns (view b) → length rs < drainBound (view b))

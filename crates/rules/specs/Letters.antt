@@ -7,7 +7,7 @@ use lib.ListN.{getD}
 use Rattle.rules.specs.Facts.{Check, check, below}
 use Rattle.rules.specs.Actions.{actionOf, isAction}
 use Rattle.rules.specs.declared.Action.{Action}
-use Rattle.rules.specs.declared.Action.the-variants.{Unknown, Start, Send, Request, Deliver, Rest, Tick, Release}
+use Rattle.rules.specs.declared.Action.the-variants.{Unknown, Start, Send, Request, Deliver, Rest, Tick, Release, Move}
 use Rattle.rules.specs.declared.StepRecord.{StepRecord}
 
 -- the field of a step record that a letter reads
@@ -16,28 +16,39 @@ pub data Field : Type 0 where
   otherField : Field
   slotField : Field
 
--- where a letter must lie, and the check of it: among the units in use (13), among the slots in use (14)
+-- where what a letter names lies: among the units in use, among the slots in use
 pub data Place : Type 0 where
   amongUnits : Place
   amongSlots : Place
 
--- a letter: its field, where it must lie, and whether the step touches what it names
+-- what a letter must be below, and the check of it: the units in use (13), the slots in use (14), the step's own unit u (47, M-108)
+pub data Limit : Type 0 where
+  unitsInUse : Limit
+  slotsInUse : Limit
+  ownUnit : Limit
+
+-- a letter: its field, where what it names lies, what it must be below, and whether the step touches what it names
 pub record Letter : Type 0 where
   pub field : Field
   pub place : Place
+  pub limit : Limit
   pub touched : Bool
 
--- u, the unit that takes the step; v, the unit that a send is for, which is not touched; s, a slot
+-- u, the unit that takes the step; v, the unit that a send is for, which is not touched; s, a slot; p, the parent that a move gives u, which
+-- is not touched (M-108)
 abbrev pub u : Letter
-u = record { field = unitField; place = amongUnits; touched = true }
+u = record { field = unitField; place = amongUnits; limit = unitsInUse; touched = true }
 
 abbrev pub v : Letter
-v = record { field = otherField; place = amongUnits; touched = false }
+v = record { field = otherField; place = amongUnits; limit = unitsInUse; touched = false }
 
 abbrev pub s : Letter
-s = record { field = slotField; place = amongSlots; touched = true }
+s = record { field = slotField; place = amongSlots; limit = slotsInUse; touched = true }
 
--- start u, send u v s, request u s, deliver s, rest u, tick u, release u s
+abbrev pub p : Letter
+p = record { field = otherField; place = amongUnits; limit = ownUnit; touched = false }
+
+-- start u, send u v s, request u s, deliver s, rest u, tick u, release u s, move u p (M-108)
 abbrev pub letters : Action → List Letter
 letters Unknown = []
 letters Start = u ∷ []
@@ -47,6 +58,7 @@ letters Deliver = s ∷ []
 letters Rest = u ∷ []
 letters Tick = u ∷ []
 letters Release = u ∷ s ∷ []
+letters Move = u ∷ p ∷ []
 
 -- ---- a field read and a field set
 abbrev pub read : StepRecord → Field → ℕ
@@ -59,14 +71,15 @@ put r unitField x = record { kind = r .kind; unit = x; other = r .other; slot = 
 put r otherField x = record { kind = r .kind; unit = r .unit; other = x; slot = r .slot }
 put r slotField x = record { kind = r .kind; unit = r .unit; other = r .other; slot = x }
 
--- ---- the head of a bracket: 13 unit not below n, 14 slot not below M
-abbrev pub placeCheck : ℕ → ℕ → ℕ → Place → List Check
-placeCheck n m i amongUnits = check (below i n) 13 ∷ []
-placeCheck n m i amongSlots = check (below i m) 14 ∷ []
+-- ---- the head of a bracket: 13 unit not below n, 14 slot not below M, 47 u is 0 or p not lower than u (M-108): nothing is lower than 0
+abbrev pub placeCheck : ℕ → ℕ → ℕ → ℕ → Limit → List Check
+placeCheck n m u i unitsInUse = check (below i n) 13 ∷ []
+placeCheck n m u i slotsInUse = check (below i m) 14 ∷ []
+placeCheck n m u i ownUnit = check (below i u) 47 ∷ []
 
 abbrev pub checksOf : ℕ → ℕ → StepRecord → List Letter → List Check
 checksOf n m r [] = []
-checksOf n m r (l ∷ ls) = placeCheck n m (read r (l .field)) (l .place) ++ checksOf n m r ls
+checksOf n m r (l ∷ ls) = placeCheck n m (r .unit) (read r (l .field)) (l .limit) ++ checksOf n m r ls
 
 abbrev pub placeChecks : ℕ → ℕ → StepRecord → Action → List Check
 placeChecks n m r a = checksOf n m r (letters a)

@@ -3,10 +3,12 @@ use mathlib.Core.Path.{_≡_}
 use mathlib.Core.Bool.{true}
 use mathlib.Core.List.{List, [], _∷_, _++_}
 use Rattle.rules.specs.Events.{Events, afterAll, allAnswers}
-use Rattle.rules.specs.Sheets.Touching.{touched, apart}
+use Rattle.rules.specs.Sheets.Touching.{theUnit, touched, apart}
+use Rattle.rules.specs.Actions.{actionOf}
 use Rattle.rules.specs.Boards.{view}
 use Rattle.rules.specs.Steps.{step}
 use Rattle.rules.specs.Lists.{steps, after, takes, events}
+use Rattle.rules.specs.declared.Action.the-variants.{Move}
 use Rattle.rules.specs.declared.Board.{Board}
 use Rattle.rules.specs.declared.StepRecord.{StepRecord}
 
@@ -24,6 +26,10 @@ pub record Independent (b : Board) (q r : StepRecord) : Type 0 where
 -- they are so in the other order too, and the boards after them are equal, with counts, marks and totals (M-105)
 unfoldable pub IndependentCommute : Type 0
 IndependentCommute = (b : Board) (q r : StepRecord) → Independent b q r → Independent b r q × (after b (r ∷ q ∷ []) ≡ after b (q ∷ r ∷ []))
+
+-- a move touches its unit alone (M-108)
+unfoldable pub MovesTouchUnit : Type 0
+MovesTouchUnit = (b : Board) (r : StepRecord) → actionOf (r .kind) ≡ Move → touched (view b) r ≡ theUnit (r .unit) ∷ []
 
 -- ---- in lists of events, steps among them
 -- two lists that leave the same board and answer the same, event for event

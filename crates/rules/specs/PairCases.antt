@@ -11,13 +11,13 @@ use Rattle.rules.specs.Opening.{opening}
 use Rattle.rules.specs.Steps.{step}
 use Rattle.rules.specs.Lists.{after, answers}
 use Rattle.rules.specs.Orders.{DebtKept, Independent}
-use Rattle.rules.specs.Cases.{start, send, deliver, rest, tick, release}
+use Rattle.rules.specs.Cases.{start, send, deliver, rest, tick, release, move}
 use Rattle.rules.specs.declared.Board.{Board}
 use Rattle.rules.specs.declared.StepRecord.{StepRecord}
 use Rattle.rules.specs.declared.Outcome.{Outcome}
 
--- what a pair shows: it is independent; it is so only since a send's v is not touched; both steps touch the spot; the first changes
--- the debt. Of the last two, what the steps answer in the other order
+-- what a pair shows: it is independent; it is so only since a send's v or a move's p is not touched; both steps touch the spot; the
+-- first changes the debt. Of the last two, what the steps answer in the other order
 pub data Shows : Type 0 where
   free : Shows
   crosses : Shows
@@ -37,7 +37,7 @@ pub record Pair : Type 0 where
 abbrev pub opened : Pair → Outcome
 opened p = opening (p .slots) (p .delay) (p .parents)
 
--- all that a step's letters name, a send's v among it
+-- all that a step's letters name, a send's v and a move's p among it
 abbrev pub namedSpots : StepRecord → List Spot
 namedSpots r = spotsOf r (letters (actionOf (r .kind)))
 
@@ -77,8 +77,11 @@ pairs =
     ∷ onFour (send 0 1 1) (rest 1) crosses
     ∷ onFour (send 1 2 1) (send 2 1 2) crosses
     ∷ onFour (deliver 0) (send 0 1 1) free
+    ∷ onFour (move 3 2) (deliver 0) free
+    ∷ onFour (move 2 1) (rest 1) crosses
     ∷ onFour (send 1 0 1) (rest 1) (meets (theUnit 1) (0 ∷ 31 ∷ []))
     ∷ onFour (tick 3) (release 3 1) (meets (theUnit 3) (40 ∷ 0 ∷ []))
+    ∷ onFour (move 3 2) (tick 3) (meets (theUnit 3) (0 ∷ 0 ∷ []))
     ∷ onFour (deliver 0) (send 2 1 0) (meets (theSlot 0) (34 ∷ 0 ∷ []))
     ∷ onTwo (start 0 ∷ send 0 1 0 ∷ []) (deliver 0) (rest 1) (meets (theUnit 1) (31 ∷ 0 ∷ []))
     ∷ onTwo (start 0 ∷ []) (rest 0) (start 1) (owes (37 ∷ 0 ∷ []))

@@ -69,18 +69,18 @@ pub struct Board {
     pub rounds: Rounds, // blank where no round is open
 }
 
-// One step as a caller asks for it: a kind from 1 to 7, and the fields that the kind has a letter for.
+// One step as a caller asks for it: a kind from 1 to 8, and the fields that the kind has a letter for.
 // Callers in other languages lend lists of it, so its layout is C's.
 #[repr(C)]
 pub struct StepRecord {
-    pub kind: u16, // start, send, request, deliver, rest, tick, release, from 1 on
+    pub kind: u16, // start, send, request, deliver, rest, tick, release, move, from 1 on
     pub unit: u16, // u: the unit that takes the step
-    pub other: u16, // v: the unit that a send is for
+    pub other: u16, // v: the unit that a send is for; p: the parent that a move gives (M-108)
     pub slot: u16, // s: the slot to fill, or to deliver
 }
 
 // How many kinds of step there are.
-pub const KINDS: u16 = 7;
+pub const KINDS: u16 = 8;
 
 // A step's kind by name; Unknown stands for every number outside 1 to KINDS.
 pub enum Action {
@@ -92,14 +92,17 @@ pub enum Action {
     Rest,
     Tick,
     Release,
+    Move,
 }
 
-// What a step does to a sound board: it is refused, or it leaves one unit, one slot or both as given, and the debt.
+// What a step does to a sound board: it is refused, or it leaves one unit, one slot or both as given, and the debt; or it gives its unit
+// another parent (M-108).
 pub enum Effect {
     Refused(u16),
     OnUnit(UnitRecord, u64),
     OnSlot(Slot, u64),
     OnBoth(UnitRecord, Slot, u64),
+    OnParent(u16),
 }
 
 // The counts of a unit.
@@ -108,9 +111,11 @@ pub struct Counts {
     pub processed: u64, // accepted deliveries of work, and starts
 }
 
-// What an effect leaves: the answer, and the debt, the unit, the slot and the unit's counts after the step; as they were where it is refused.
+// What an effect leaves: the answer, and the unit's parent, the debt, the unit, the slot and the unit's counts after the step; as they were
+// where it is refused.
 pub struct Change {
     pub answer: u16,
+    pub parent: u16,
     pub debt: u64,
     pub unit: UnitRecord,
     pub slot: Slot,

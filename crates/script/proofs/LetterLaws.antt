@@ -10,6 +10,7 @@ use Rattle.placing.specs.Placing.{Writes}
 use Rattle.placing.specs.declared.Wrote.{Wrote}
 use Rattle.placing.specs.declared.Wrote.the-variants.{Refused}
 use Rattle.placing.proofs.Stores.{sets-append}
+use Rattle.rules.specs.Facts.{atMost, each}
 use Rattle.rules.specs.Actions.{kinds, actionOf, isKnown}
 use Rattle.rules.specs.Letters.{Letter, letters, valuesOf}
 use Rattle.rules.specs.Guarantee.{Fits16}
@@ -20,7 +21,7 @@ use Rattle.numbers.specs.Numbers.{tabbed}
 use Rattle.numbers.proofs.JoinLaws.{Small, tabbed-length}
 use Rattle.script.specs.Words.{words}
 use Rattle.script.specs.Writing.{lettersOf, stepLine, stepText, longestStep, stepWrote, stepWritten}
-use Rattle.script.proofs.KindLaws.{by-kind}
+use Rattle.script.proofs.WordLaws.{word-row}
 
 -- each letter of a step is small
 pub letters-small : (r : StepRecord) (a : Action) → Fits16 r → Small (lettersOf r a)
@@ -31,8 +32,9 @@ letters-small r a h = each-small (letters a)
     each-small (l ∷ ls) = (omega (arith, read-fits r h (l .field)), each-small ls)
 
 -- a word, and six bytes for each letter: a tab and at most five digits. The longest is a send's
-word-short : (k : ℕ) → 1 ≤ k → k ≤ kinds → length (getD words k []) + 6 * length (letters (actionOf k)) ≤ 22
-word-short = by-kind (λ k. length (getD words k []) + 6 * length (letters (actionOf k)) ≤ 22) (omega arith) (omega arith) (omega arith) (omega arith) (omega arith) (omega arith) (omega arith)
+word-short : (k : ℕ) → k ≤ kinds → length (getD words k []) + 6 * length (letters (actionOf k)) ≤ 22
+unfolding each
+word-short k u = word-row (λ i w. atMost (length w + 6 * length (letters (actionOf i))) 22 ∷ []) refl k u .0
 
 pub line-short : (r : StepRecord) → 1 ≤ r .kind → r .kind ≤ kinds → Fits16 r → length (stepLine r) < longestStep
 unfolding stepLine
@@ -41,7 +43,7 @@ line-short r l u h =
     omega (
       arith,
       length-append (getD words (r .kind) []) (tabbed ns),
-      word-short (r .kind) l u,
+      word-short (r .kind) u,
       tabbed-length ns (letters-small r (actionOf (r .kind)) h),
       values-length r (letters (actionOf (r .kind))),
     )

@@ -11,7 +11,7 @@ use lib.ListN.{length, drop, getD, length-drop}
 use Rattle.rules.specs.Facts.{test, Claims, judge}
 use Rattle.rules.specs.Actions.{actionOf, kinds}
 use Rattle.rules.specs.declared.Action.{Action}
-use Rattle.rules.specs.declared.Action.the-variants.{Unknown, Start, Send, Request, Deliver, Rest, Tick, Release}
+use Rattle.rules.specs.declared.Action.the-variants.{Unknown, Start, Send, Request, Deliver, Rest, Tick, Release, Move}
 use Rattle.rules.proofs.FactLaws.{asked, judge-passed}
 use Rattle.rules.proofs.JudgeLaws.{Numbered, numberOf, number-claims}
 use Rattle.fields.specs.Fields.{tab, upTo, fieldOf, fieldCount}
@@ -39,6 +39,7 @@ record-three k vs Deliver = refl
 record-three k vs Rest = refl
 record-three k vs Tick = refl
 record-three k vs Release = refl
+record-three k vs Move = refl
 
 asks-three : (k : ℕ) (vs : List ℕ) → (k ≡ 0 → ⊥) → Asks (recordBy k (getD vs 0 0 ∷ getD vs 1 0 ∷ getD vs 2 0 ∷ []) (actionOf k)) ≡ readingBy k vs
 asks-three k vs n = ap Asks (record-three k vs (actionOf k)) ∙ sym (asks k vs n)

@@ -7,7 +7,7 @@ use native.Mathlib.Nat.{not-suc-le-zero}
 use native.Mathlib.Omega.{arith}
 use lib.ListN.{length, take, drop, getD, length-append, length-map}
 use lib.Seq.{sets-eq, take-at, drop-at, length-take-le}
-use Rattle.rules.specs.Facts.{Claim, Claims, sameList}
+use Rattle.rules.specs.Facts.{equal, Claim, Claims, each, sameList}
 use Rattle.rules.specs.Actions.{kinds, actionOf, isKnown}
 use Rattle.rules.specs.Letters.{letters, used}
 use Rattle.rules.specs.Guarantee.{Fits16}
@@ -27,7 +27,8 @@ use Rattle.script.specs.Lines.{arguments, rightCount, lineChecks, readin
 use Rattle.script.specs.Writing.{lettersOf, stepLine, stepText, stepWrote, stepWritten}
 use Rattle.script.specs.RoundTrips.{RoundTrip}
 use Rattle.script.specs.declared.Reading.the-variants.{Asks, Refused}
-use Rattle.script.proofs.KindLaws.{by-kind, known-range}
+use Rattle.script.proofs.KindLaws.{known-range}
+use Rattle.script.proofs.WordLaws.{word-row}
 use Rattle.script.proofs.LineLaws.{asks, fields-pass}
 use Rattle.script.proofs.LetterLaws.{letters-small, line-short}
 
@@ -35,13 +36,13 @@ use Rattle.script.proofs.LetterLaws.{letters-small, line-short}
 abbrev wordOf : ℕ → List ℕ
 wordOf k = getD words k []
 
-word-none : (k : ℕ) → 1 ≤ k → k ≤ kinds → countOf tab (wordOf k) ≡ 0
-unfolding countOf
-word-none = by-kind (λ k. countOf tab (wordOf k) ≡ 0) refl refl refl refl refl refl refl
+word-none : (k : ℕ) → k ≤ kinds → countOf tab (wordOf k) ≡ 0
+unfolding each countOf
+word-none k u = word-row (λ i w. equal (countOf tab w) 0 ∷ []) refl k u .0
 
-word-back : (k : ℕ) → 1 ≤ k → k ≤ kinds → wordNumber (wordOf k) ≡ k
-unfolding placeOf sameList
-word-back = by-kind (λ k. wordNumber (wordOf k) ≡ k) refl refl refl refl refl refl refl
+word-back : (k : ℕ) → k ≤ kinds → wordNumber (wordOf k) ≡ k
+unfolding each placeOf sameList
+word-back k u = word-row (λ i w. equal (wordNumber w) i ∷ []) refl k u .0
 
 count-right : (k n : ℕ) → 1 ≤ k → n ≡ suc (length (letters (actionOf k))) → Claim (rightCount k n)
 count-right zero n l e = absurd (not-suc-le-zero l)
@@ -56,7 +57,7 @@ module _ (r : StepRecord) (l : 1 ≤ r .kind) (u : r .kind ≤ kinds) (h : Fits1
   small = letters-small r (actionOf (r .kind)) h
 
   none : countOf tab (wordOf (r .kind)) ≡ 0
-  none = word-none (r .kind) l u
+  none = word-none (r .kind) u
 
   line-fields : fieldsOf (stepLine r) ≡ wordOf (r .kind) ∷ map spelled ns
   unfolding stepLine
@@ -64,7 +65,7 @@ module _ (r : StepRecord) (l : 1 ≤ r .kind) (u : r .kind ≤ kinds) (h : Fits1
 
   line-word : wordNumber (fieldOf 0 (stepLine r)) ≡ r .kind
   unfolding fieldOf
-  line-word = ap wordNumber (ap (λ (fs : List (List ℕ)). getD fs 0 []) (sym (fields-split (stepLine r)) ∙ line-fields)) ∙ word-back (r .kind) l u
+  line-word = ap wordNumber (ap (λ (fs : List (List ℕ)). getD fs 0 []) (sym (fields-split (stepLine r)) ∙ line-fields)) ∙ word-back (r .kind) u
 
   line-count : fieldCount (stepLine r) ≡ suc (length (letters (actionOf (r .kind))))
   line-count = sym (fields-count (stepLine r)) ∙ ap length line-fields ∙ ap suc (length-map ns spelled ∙ values-length r (letters (actionOf (r .kind))))

@@ -2,13 +2,14 @@
 use mathlib.Core.Path.{_≡_, refl, sym, _∙_}
 use mathlib.Core.Bool.{Bool, true, false, cond}
 use mathlib.Core.List.{List, [], _∷_}
-use Prim.Native.Nat.{ℕ, suc, _+_, _<_}
+use Prim.Native.Nat.{ℕ, suc, _+_, _≤_, _<_}
 use native.Mathlib.Nat.{add-zero, add-suc, suc-add}
 use native.Mathlib.Omega.{arith}
 use lib.ListN.{length, getD}
-use Rattle.rules.specs.Facts.{sameList}
-use Rattle.rules.proofs.FactLaws.{true-not-false, same-itself, same-is}
-use Rattle.script.specs.Words.{placeOf}
+use Rattle.rules.specs.Facts.{Fact, Claims, each, sameList}
+use Rattle.rules.specs.Actions.{kinds}
+use Rattle.rules.proofs.FactLaws.{true-not-false, same-itself, same-is, each-claims, each-at}
+use Rattle.script.specs.Words.{words, placeOf}
 
 -- ---- a test of the words from place j on: the word is the first of them, or its number is that among the others
 module _ (w v : List ℕ) (vs : List (List ℕ)) {t : Bool} (says : (t ≡ true → w ≡ v) × (w ≡ v → t ≡ true)) (j : ℕ) {n : ℕ} (left : n ≡ j + placeOf w (v ∷ vs)) where
@@ -23,6 +24,10 @@ module _ (w v : List ℕ) (vs : List (List ℕ)) {t : Bool} (says : (t ≡ true 
   pub passed : t ≡ false → n ≡ suc j + placeOf w vs
   unfolding placeOf
   passed e = left ∙ rw (missed e (sameList w v) refl, add-suc, suc-add)
+
+-- ---- facts of each word by its place, by a test that computes over all words
+pub word-row : (row : ℕ → List ℕ → List Fact) → each row words ≡ true → (k : ℕ) → k ≤ kinds → Claims (row k (getD words k []))
+word-row row e k u = each-at row words k [] (omega (arith, u)) (each-claims row words e)
 
 -- ---- the other way: a word that has a place among the words is the one at its place
 pub word-at : (w : List ℕ) (vs : List (List ℕ)) → placeOf w vs < length vs → getD vs (placeOf w vs) [] ≡ w

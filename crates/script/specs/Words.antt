@@ -28,9 +28,12 @@ tickWord = 116 ∷ 105 ∷ 99 ∷ 107 ∷ []
 abbrev pub releaseWord : List ℕ
 releaseWord = 114 ∷ 101 ∷ 108 ∷ 101 ∷ 97 ∷ 115 ∷ 101 ∷ []
 
--- board at 0, and each step's word at the step's kind
+abbrev pub moveWord : List ℕ
+moveWord = 109 ∷ 111 ∷ 118 ∷ 101 ∷ []
+
+-- board at 0, and each step's word at the step's kind; move is M-108's
 abbrev pub words : List (List ℕ)
-words = boardWord ∷ startWord ∷ sendWord ∷ requestWord ∷ deliverWord ∷ restWord ∷ tickWord ∷ releaseWord ∷ []
+words = boardWord ∷ startWord ∷ sendWord ∷ requestWord ∷ deliverWord ∷ restWord ∷ tickWord ∷ releaseWord ∷ moveWord ∷ []
 
 -- the place of the first of the words vs that w is, their number where it is none
 unfoldable pub placeOf : List ℕ → List (List ℕ) → ℕ

@@ -28,7 +28,7 @@ stepText r = stepLine r ++ 10 ∷ []
 abbrev pub longestStep : ℕ
 longestStep = 23
 
--- 16 kind outside 1 to 7, before 27
+-- 16 kind outside 1 to 8 (M-108), before 27
 unfoldable pub stepWrote : StepRecord → ℕ → List ℕ → Wrote
 stepWrote r at out = judge Refused (check (holds (isKnown (actionOf (r .kind)))) 16 ∷ []) (wrote (stepText r) at out)
 

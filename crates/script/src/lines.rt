@@ -35,6 +35,7 @@ fn fits_count(word: u16, count: usize) -> bool
         0 => count >= 3,
         2 => count == 4,
         3 | 7 => count == 3,
+        8 => count == 3, // apart, since 7 | 8 would be tested as a range
         _ => count == 2,
     }
 }
@@ -62,6 +63,12 @@ fn record_of(kind: u16, a: u16, b: u16, c: u16) -> StepRecord
             unit: 0,
             other: 0,
             slot: a,
+        },
+        8 => StepRecord {
+            kind,
+            unit: a,
+            other: b,
+            slot: 0,
         },
         _ => StepRecord {
             kind,

@@ -36,6 +36,9 @@ pub(crate) fn word_number(w: &[u8]) -> u16
     if check::same(w, b"release") {
         return 7;
     }
+    if check::same(w, b"move") {
+        return 8;
+    }
     KINDS + 1
 }
 
@@ -60,6 +63,7 @@ pub(crate) fn put_word(kind: u16, out: &mut [u8]) -> usize
         4 => put(b"deliver", out),
         5 => put(b"rest", out),
         6 => put(b"tick", out),
-        _ => put(b"release", out),
+        7 => put(b"release", out),
+        _ => put(b"move", out),
     }
 }

@@ -36,6 +36,10 @@ fn letters_of(r: StepRecord) -> Letters
             count: 1,
             list: [r.slot, 0, 0],
         },
+        8 => Letters {
+            count: 2,
+            list: [r.unit, r.other, 0],
+        },
         _ => Letters {
             count: 1,
             list: [r.unit, 0, 0],

@@ -18,7 +18,7 @@ use Rattle.rules.specs.Boards.{view, boardOf}
 use Rattle.rules.specs.Sound.{Sound, sound}
 use Rattle.rules.specs.Steps.{roundsKept, onBoard, soundStep, step}
 use Rattle.rules.specs.declared.Action.{Action}
-use Rattle.rules.specs.declared.Action.the-variants.{Unknown, Start, Send, Request as RequestStep, Deliver, Rest, Tick, Release}
+use Rattle.rules.specs.declared.Action.the-variants.{Unknown, Start, Send, Request as RequestStep, Deliver, Rest, Tick, Release, Move}
 use Rattle.rules.specs.declared.Effect.{Effect}
 use Rattle.rules.specs.declared.Effect.the-variants.{Refused}
 use Rattle.rules.specs.declared.Rounds.{Rounds}
@@ -41,11 +41,11 @@ use Rattle.steps.proofs.Clamping.{clamped-step}
 
 -- ---- counts: where the whole bracket holds, no full count is to grow
 -- a judged effect changes alike with counts that are the same where its checks hold
-counts-alike : (x : UnitRecord) (y : Slot) (debt : ℕ) (k c d : Counts) (cs : List Check) (e : Effect) → (Claims (asked cs) → c ≡ d) → changeOf (judge Refused cs e) x y debt k c ≡ changeOf (judge Refused cs e) x y debt k d
-counts-alike x y debt k c d cs e same =
-    judge-map (λ (f : Effect). changeOf f x y debt k c) Refused cs e
-    ∙ judge-same (λ j. record { answer = j; debt = debt; unit = x; slot = y; counts = k }) cs (changeOf e x y debt k c) (changeOf e x y debt k d) (λ p. ap (changeOf e x y debt k) (same p))
-    ∙ sym (judge-map (λ (f : Effect). changeOf f x y debt k d) Refused cs e)
+counts-alike : (x : UnitRecord) (p : ℕ) (y : Slot) (debt : ℕ) (k c d : Counts) (cs : List Check) (e : Effect) → (Claims (asked cs) → c ≡ d) → changeOf (judge Refused cs e) x p y debt k c ≡ changeOf (judge Refused cs e) x p y debt k d
+counts-alike x p y debt k c d cs e same =
+    judge-map (λ (f : Effect). changeOf f x p y debt k c) Refused cs e
+    ∙ judge-same (λ j. record { answer = j; parent = p; debt = debt; unit = x; slot = y; counts = k }) cs (changeOf e x p y debt k c) (changeOf e x p y debt k d) (λ q. ap (changeOf e x p y debt k) (same q))
+    ∙ sym (judge-map (λ (f : Effect). changeOf f x p y debt k d) Refused cs e)
 
 module _ (n m debt delay : ℕ) (r : StepRecord) (x : UnitRecord) (p : ℕ) (y : Slot) (k : Counts) (most : k .created ≤ full) where
   abbrev row : Action → List Check
@@ -61,14 +61,15 @@ module _ (n m debt delay : ℕ) (r : StepRecord) (x : UnitRecord) (p : ℕ) (y :
   not-full Rest c = omega (arith, most)
   not-full Tick c = omega (arith, most)
   not-full Release c = omega (arith, most)
+  not-full Move c = omega (arith, most)
 
-  pub counted-alike : (a : Action) → changeOf (judge Refused (placeChecks n m r a) (recordRule debt delay r x p y (k .created) a)) x y debt k (countedUp k y a)
-      ≡ changeOf (judge Refused (placeChecks n m r a) (recordRule debt delay r x p y (k .created) a)) x y debt k (counted k y a)
+  pub counted-alike : (a : Action) → changeOf (judge Refused (placeChecks n m r a) (recordRule debt delay r x p y (k .created) a)) x p y debt k (countedUp k y a)
+      ≡ changeOf (judge Refused (placeChecks n m r a) (recordRule debt delay r x p y (k .created) a)) x p y debt k (counted k y a)
   unfolding recordRule
   counted-alike a =
-      ap (λ (e : Effect). changeOf e x y debt k (countedUp k y a)) (sym appended)
-      ∙ counts-alike x y debt k (countedUp k y a) (counted k y a) (row a) (recordEffect debt delay r x p y a) (λ c i. record { created = not-full a c i; processed = k .processed + processedBy y a })
-      ∙ ap (λ (e : Effect). changeOf e x y debt k (counted k y a)) appended
+      ap (λ (e : Effect). changeOf e x p y debt k (countedUp k y a)) (sym appended)
+      ∙ counts-alike x p y debt k (countedUp k y a) (counted k y a) (row a) (recordEffect debt delay r x p y a) (λ c i. record { created = not-full a c i; processed = k .processed + processedBy y a })
+      ∙ ap (λ (e : Effect). changeOf e x p y debt k (counted k y a)) appended
     where
       appended : judge Refused (row a) (recordEffect debt delay r x p y a) ≡ judge Refused (placeChecks n m r a) (judge Refused (recordChecks debt x y (k .created) a) (recordEffect debt delay r x p y a))
       appended = judge-append Refused (placeChecks n m r a) (recordChecks debt x y (k .created) a) (recordEffect debt delay r x p y a)

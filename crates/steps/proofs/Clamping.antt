@@ -11,7 +11,7 @@ use Rattle.rules.specs.Letters.{unitBy, slotOf, placeChecks}
 use Rattle.rules.specs.Sheets.Steps.{unitOf, madeAt, placesOn, effectBy, applied}
 use Rattle.rules.specs.Effects.{recordRule}
 use Rattle.rules.specs.declared.Action.{Action}
-use Rattle.rules.specs.declared.Action.the-variants.{Unknown, Start, Send, Request as RequestStep, Deliver, Rest, Tick, Release}
+use Rattle.rules.specs.declared.Action.the-variants.{Unknown, Start, Send, Request as RequestStep, Deliver, Rest, Tick, Release, Move}
 use Rattle.rules.specs.declared.Effect.{Effect}
 use Rattle.rules.specs.declared.Effect.the-variants.{Refused}
 use Rattle.rules.specs.declared.StepRecord.{StepRecord}
@@ -43,6 +43,7 @@ module _ (b : Sheet) (h : Sound b) where
   within r Rest p = omega arith
   within r Tick p = omega arith
   within r Release p = omega arith
+  within r Move p = omega arith
 
   -- the rule at clamped places, applied there, is the step: a refused effect is applied alike at any places
   module _ (r : StepRecord) (a : Action) (u s : ℕ) (slot-is : s ≡ min (slotOf r a) 255) (unit-at : u ≡ min (unitBy r (slotAt b s .to) a) 63) where

@@ -12,7 +12,7 @@ use borrow.Author.Tests.{ne-eqb}
 use Rattle.rules.specs.Words.{full}
 use Rattle.rules.specs.Actions.{kinds, actionOf, kindOf}
 use Rattle.rules.specs.declared.Action.{Action}
-use Rattle.rules.specs.declared.Action.the-variants.{Unknown, Start, Send, Request, Deliver, Rest, Tick, Release}
+use Rattle.rules.specs.declared.Action.the-variants.{Unknown, Start, Send, Request, Deliver, Rest, Tick, Release, Move}
 use Rattle.rules.specs.declared.Counts.{Counts}
 use Rattle.rules.specs.declared.Slot.{Slot}
 use Rattle.rules.proofs.Action.{the-type}
@@ -28,7 +28,8 @@ kind-told (suc (suc (suc (suc zero)))) j l = refl
 kind-told (suc (suc (suc (suc (suc zero))))) j l = refl
 kind-told (suc (suc (suc (suc (suc (suc zero)))))) j l = refl
 kind-told (suc (suc (suc (suc (suc (suc (suc zero))))))) j l = refl
-kind-told (suc (suc (suc (suc (suc (suc (suc (suc k)))))))) j l = ne-eqb 0 j (λ e. omega (arith, l, e)) ∙ sym (ne-eqb (suc (suc (suc (suc (suc (suc (suc (suc k)))))))) j (λ e. omega (arith, l, e)))
+kind-told (suc (suc (suc (suc (suc (suc (suc (suc zero)))))))) j l = refl
+kind-told (suc (suc (suc (suc (suc (suc (suc (suc (suc k))))))))) j l = ne-eqb 0 j (λ e. omega (arith, l, e)) ∙ sym (ne-eqb (suc (suc (suc (suc (suc (suc (suc (suc (suc k))))))))) j (λ e. omega (arith, l, e)))
 
 -- counts are the same where both are
 pub counts-same : (c d p q : ℕ) → c ≡ d → p ≡ q → _≡_ {A = Counts} (record { created = c; processed = p }) (record { created = d; processed = q })
@@ -50,3 +51,4 @@ counts-stay k y Deliver tags start send deliver told most = absurd (miss tags 4 
 counts-stay k y Rest tags start send deliver told most = none-added k most
 counts-stay k y Tick tags start send deliver told most = none-added k most
 counts-stay k y Release tags start send deliver told most = none-added k most
+counts-stay k y Move tags start send deliver told most = none-added k most

@@ -32,4 +32,4 @@ abbrev pub countedUp : Counts → Slot → Action → Counts
 countedUp k y a = record { created = min (k .created + createdBy a) full; processed = k .processed + processedBy y a }
 
 abbrev pub changeAt : Bool → ℕ → ℕ → ℕ → ℕ → StepRecord → UnitRecord → ℕ → Slot → Counts → Change
-changeAt sound n m debt delay r x p y k = changeOf (effectOn sound n m debt delay r x p y (k .created)) x y debt k (countedUp k y (actionOf (r .kind)))
+changeAt sound n m debt delay r x p y k = changeOf (effectOn sound n m debt delay r x p y (k .created)) x p y debt k (countedUp k y (actionOf (r .kind)))

@@ -82,6 +82,7 @@ pub fn run_batch(mut b: Board, steps: [StepRecord; BATCH], count: usize) -> Batc
         let unit = c.unit;
         let slot = c.slot;
         let counts = c.counts;
+        b.parents[u] = c.parent;
         b.units[u] = unit;
         b.slots[s] = slot;
         b.created[u] = counts.created;

@@ -45,13 +45,22 @@ fn unless_refused(k: u16, e: Effect) -> Effect
     Effect::Refused(k)
 }
 
-// What an effect leaves of the unit x, the slot y, the debt and the unit's counts; those of an accepted step are given.
-fn change_of(e: Effect, x: UnitRecord, y: Slot, debt: u64, k: Counts, counts: Counts) -> Change
-    ensures { λ c. ⌜ c ≡ changeOf e x y debt k counts ⌝ }
+// What an effect leaves of the unit x, its parent p, the slot y, the debt and the unit's counts; those of an accepted step are given.
+fn change_of(
+    e: Effect,
+    x: UnitRecord,
+    p: u16,
+    y: Slot,
+    debt: u64,
+    k: Counts,
+    counts: Counts,
+) -> Change
+    ensures { λ c. ⌜ c ≡ changeOf e x p y debt k counts ⌝ }
 {
     match e {
         Effect::Refused(j) => Change {
             answer: j,
+            parent: p,
             debt,
             unit: x,
             slot: y,
@@ -59,6 +68,7 @@ fn change_of(e: Effect, x: UnitRecord, y: Slot, debt: u64, k: Counts, counts: Co
         },
         Effect::OnUnit(z, debt) => Change {
             answer: 0,
+            parent: p,
             debt,
             unit: z,
             slot: y,
@@ -66,6 +76,7 @@ fn change_of(e: Effect, x: UnitRecord, y: Slot, debt: u64, k: Counts, counts: Co
         },
         Effect::OnSlot(z, debt) => Change {
             answer: 0,
+            parent: p,
             debt,
             unit: x,
             slot: z,
@@ -73,15 +84,24 @@ fn change_of(e: Effect, x: UnitRecord, y: Slot, debt: u64, k: Counts, counts: Co
         },
         Effect::OnBoth(unit, slot, debt) => Change {
             answer: 0,
+            parent: p,
             debt,
             unit,
             slot,
             counts,
         },
+        Effect::OnParent(parent) => Change {
+            answer: 0,
+            parent,
+            debt,
+            unit: x,
+            slot: y,
+            counts,
+        },
     }
 }
 
-// The change that a step makes to the unit x, whose parent is p and whose counts are k, and to the slot y, on a board with n units and
+// The change that a step makes to the unit x, to its parent p and its counts k, and to the slot y, on a board with n units and
 // m slots. It is known whether the board is sound: one that is not refuses the step.
 pub(crate) fn change_at(
     sound: bool,
@@ -101,6 +121,7 @@ pub(crate) fn change_at(
     if !sound {
         return Change {
             answer: 30,
+            parent: p,
             debt,
             unit: x,
             slot: y,
@@ -112,5 +133,5 @@ pub(crate) fn change_at(
     let e = record_rule(debt, delay, r, x, p, y, k.created, a);
     let counts = counted(k, y, a);
     let j = place_refusal(n, m, r, a);
-    change_of(unless_refused(j, e), x, y, debt, k, counts)
+    change_of(unless_refused(j, e), x, p, y, debt, k, counts)
 }

@@ -35,7 +35,7 @@ ghost use Rattle.rules.specs.Steps.{step};
 ghost use Rattle.steps.specs.StepMeets.{StepMeets};
 pub use batch::run_batch;
 
-// A step's kind by its number; every number outside 1 to 7 is unknown.
+// A step's kind by its number; every number outside 1 to 8 is unknown.
 pub(crate) fn action(kind: u16) -> Action
     ensures { λ a. ⌜ a ≡ actionOf kind ⌝ }
 {
@@ -47,6 +47,7 @@ pub(crate) fn action(kind: u16) -> Action
         5 => Action::Rest,
         6 => Action::Tick,
         7 => Action::Release,
+        8 => Action::Move,
         _ => Action::Unknown,
     }
 }
@@ -70,6 +71,7 @@ pub(crate) fn acted(mut b: Board, r: StepRecord, tested: bool) -> Outcome
     let unit = c.unit;
     let slot = c.slot;
     let counts = c.counts;
+    b.parents[u] = c.parent;
     b.units[u] = unit;
     b.slots[s] = slot;
     b.created[u] = counts.created;

@@ -20,6 +20,7 @@ pub(crate) fn slot_of(r: StepRecord, a: Action) -> u16
         Action::Rest => 0,
         Action::Tick => 0,
         Action::Release => r.slot,
+        Action::Move => 0,
     }
 }
 
@@ -36,42 +37,39 @@ pub(crate) fn unit_of(r: StepRecord, to: u16, a: Action) -> u16
         Action::Rest => r.unit,
         Action::Tick => r.unit,
         Action::Release => r.unit,
+        Action::Move => r.unit,
     }
 }
 
-// 13 where u is no unit in use, else what comes next.
-fn unit_checked(n: u16, u: u16, next: u16) -> u16
-    ensures { λ k. ⌜ k ≡ judge (λ j. j) (check (below u n) 13 ∷ []) next ⌝ }
+// The number where i is not below its limit, else what comes next.
+fn checked(i: u16, limit: u16, number: u16, next: u16) -> u16
+    ensures { λ k. ⌜ k ≡ judge (λ j. j) (check (below i limit) number ∷ []) next ⌝ }
 {
-    if u < n {
+    if i < limit {
         return next;
     }
-    13
+    number
 }
 
-// 14 where s is no slot in use.
-fn slot_checked(m: u16, s: u16) -> u16
-    ensures { λ k. ⌜ k ≡ judge (λ j. j) (check (below s m) 14 ∷ []) 0 ⌝ }
-{
-    if s < m {
-        return 0;
-    }
-    14
-}
-
-// The head of each bracket: 0, or the number that refuses the unit or the slot.
+// The head of each bracket: 0, or the number that refuses the unit, the slot or a move's parent, which is to be below the unit (M-108).
 pub(crate) fn place_refusal(n: u16, m: u16, r: StepRecord, a: Action) -> u16
     ensures { λ k. ⌜ k ≡ judge (λ j. j) (placeChecks n m r a) 0 ⌝ }
 {
     match a {
         Action::Unknown => 0,
-        Action::Start => unit_checked(n, r.unit, 0),
-        Action::Send => unit_checked(n, r.unit, unit_checked(n, r.other, slot_checked(m, r.slot))),
-        Action::Request => unit_checked(n, r.unit, slot_checked(m, r.slot)),
-        Action::Deliver => slot_checked(m, r.slot),
-        Action::Rest => unit_checked(n, r.unit, 0),
-        Action::Tick => unit_checked(n, r.unit, 0),
-        Action::Release => unit_checked(n, r.unit, slot_checked(m, r.slot)),
+        Action::Start => checked(r.unit, n, 13, 0),
+        Action::Send => checked(
+            r.unit,
+            n,
+            13,
+            checked(r.other, n, 13, checked(r.slot, m, 14, 0)),
+        ),
+        Action::Request => checked(r.unit, n, 13, checked(r.slot, m, 14, 0)),
+        Action::Deliver => checked(r.slot, m, 14, 0),
+        Action::Rest => checked(r.unit, n, 13, 0),
+        Action::Tick => checked(r.unit, n, 13, 0),
+        Action::Release => checked(r.unit, n, 13, checked(r.slot, m, 14, 0)),
+        Action::Move => checked(r.unit, n, 13, checked(r.other, r.unit, 47, 0)),
     }
 }
 

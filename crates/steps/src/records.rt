@@ -38,5 +38,6 @@ pub(crate) fn record_rule(
         Action::Rest => rest(debt, delay, r.unit, x),
         Action::Tick => tick(debt, x),
         Action::Release => release(debt, r.unit, p, x, y),
+        Action::Move => Effect::OnParent(r.other),
     }
 }

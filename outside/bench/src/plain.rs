@@ -8,14 +8,12 @@ use reference::{Board, Kind, Round, Slot, State, Unit, DEBT_LIMIT, DELAY_LIMIT, 
 /// up to it do not wrap.
 const CREATED_LIMIT: u64 = UNITS as u64 * u32::MAX as u64;
 
-/// Whether a slot in use holds what its kind allows.
+/// Whether a slot in use holds what its kind allows. A return goes to a unit lower than its sender (M-108).
 fn slot_fits(b: &Board, slot: &Slot) -> bool {
     match slot.kind {
         Kind::Empty => slot.from == 0 && slot.to == 0 && slot.weight == 0,
         Kind::Work => slot.from < b.n && slot.to < b.n && slot.weight >= 1,
-        Kind::Return => {
-            slot.from >= 1 && slot.from < b.n && b.parents[usize::from(slot.from)] == slot.to && slot.weight >= 1
-        }
+        Kind::Return => slot.from >= 1 && slot.from < b.n && slot.to < slot.from && slot.weight >= 1,
         Kind::Request => slot.from < b.n && slot.to == 0 && slot.weight == 0,
         Kind::Supply => slot.from == 0 && slot.to < b.n && slot.weight == FULL_WEIGHT,
     }
@@ -129,6 +127,15 @@ pub fn soundness(case: &mut Case) -> u64 {
 #[cfg(test)]
 mod tests {
     use super::*;
+    use reference::Step;
+
+    /// Makes work a return of the same weight, and takes it off what unit 0 created.
+    fn returned(b: &mut Board, slot: usize, from: u16, to: u16) {
+        let message = &mut b.slots[slot];
+        assert_eq!(message.kind, Kind::Work);
+        (message.kind, message.from, message.to) = (Kind::Return, from, to);
+        b.created[0] -= 1;
+    }
 
     /// The two tests agree on a walked board and on the same board with one field changed, whatever round is open.
     #[test]
@@ -139,7 +146,7 @@ mod tests {
             board.step(*step);
             assert!(is_sound(&board) && board.is_sound());
         }
-        let changes: [fn(&mut Board, usize); 19] = [
+        let changes: [fn(&mut Board, usize); 24] = [
             |b, _| b.n -= 1,
             |b, _| b.m = 0,
             |b, _| b.debt += 1,
@@ -149,6 +156,18 @@ mod tests {
             |b, i| b.units[i % UNITS].state = State::Waiting,
             |b, i| b.slots[i].kind = Kind::Work,
             |b, i| b.slots[i].kind = Kind::Request,
+            // From each unit to each, and past n. The slots from 8 on hold work.
+            |b, i| returned(b, 8 + i % 8, i as u16 % 10, i as u16 / 10),
+            |b, i| returned(b, 8 + i % 8, 1 + i as u16 / 32, i as u16 % 9),
+            |b, i| returned(b, 8 + i % 8, 65_535, i as u16),
+            // Without weight.
+            |b, i| {
+                returned(b, 8 + i % 8, 2, 0);
+                b.debt -= std::mem::take(&mut b.slots[8 + i % 8].weight);
+            },
+            |b, i| {
+                b.step(Step::move_under(i as u16 % 9, i as u16 / 9));
+            },
             |b, i| b.created[i % UNITS] ^= 1,
             |b, i| b.processed[i % UNITS] ^= 1,
             |b, i| b.processed[i % UNITS] = u64::MAX - i as u64,

@@ -162,17 +162,15 @@ impl Board {
             })
     }
 
-    /// S3.
+    /// S3. A return goes to a unit lower than its sender, which has another parent
+    /// now if it was moved since (M-108).
     fn slots_hold(&self) -> bool {
         let in_use = |unit: u16| unit < self.n;
         self.slots.iter().all(|slot| match slot.kind {
             Kind::Empty => slot.from == 0 && slot.to == 0 && slot.weight == 0,
             Kind::Work => in_use(slot.from) && in_use(slot.to) && slot.weight >= 1,
             Kind::Return => {
-                slot.from >= 1
-                    && in_use(slot.from)
-                    && self.parents.get(usize::from(slot.from)) == Some(&slot.to)
-                    && slot.weight >= 1
+                slot.from >= 1 && in_use(slot.from) && slot.to < slot.from && slot.weight >= 1
             }
             Kind::Request => in_use(slot.from) && slot.to == 0 && slot.weight == 0,
             Kind::Supply => slot.from == 0 && in_use(slot.to) && slot.weight == FULL_WEIGHT,

@@ -88,8 +88,8 @@ fn run_lists(board: &Board, choices: &[Step], more: u16, counts: &mut Counts) {
     }
 }
 
-/// The steps to choose from: the seven kinds with every unit below `n` and every
-/// slot below `m`, fields that a kind does not read being 0.
+/// The steps to choose from: seven kinds, without the move (M-108), with every unit
+/// below `n` and every slot below `m`, fields that a kind does not read being 0.
 pub fn choices(n: u16, m: u16) -> Vec<Step> {
     let mut choices = Vec::new();
     for u in 0..n {

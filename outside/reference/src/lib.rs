@@ -1,7 +1,7 @@
 //! The weight board after the scope document, written plainly so that another
 //! implementation can be compared with it.
 //!
-//! * [`Board`]: opening, soundness, depth, finished, the seven steps, a run, the
+//! * [`Board`]: opening, soundness, depth, finished, the eight steps, a run, the
 //!   counting rounds.
 //! * [`read_line`], [`field`], [`is_padded`], [`read_number`], [`write_step`]:
 //!   the script.

@@ -24,11 +24,12 @@ impl Touched {
 
 /// What a step touches on a board: its unit u and its slot s, where it has them,
 /// and for a delivery the receiver of the message in the slot. A send's v is not
-/// touched: its work is under way to v, and only the delivery changes v. A step
-/// of no kind has no letters, and an empty slot has no receiver; both are refused.
+/// touched: its work is under way to v, and only the delivery changes v. Nor is a
+/// move's p (M-108). A step of no kind has no letters, and an empty slot has no
+/// receiver; both are refused.
 pub fn touched(board: &Board, mut step: Step) -> Touched {
     let mut touched = Touched::default();
-    if !(Step::START..=Step::RELEASE).contains(&step.kind) {
+    if !Step::KINDS.contains(&step.kind) {
         return touched;
     }
     for letter in letters(step.kind) {

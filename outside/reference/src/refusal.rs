@@ -21,6 +21,7 @@ pub const SCRIPT_TOO_LONG: Refusal = 26;
 pub const NO_ROOM: Refusal = 27;
 pub const PADDED_NUMBER: Refusal = 28;
 pub const BEYOND_CENSUS: Refusal = 46;
+pub const NO_SUCH_MOVE: Refusal = 47;
 
 // From the state.
 pub const UNSOUND: Refusal = 30;

@@ -249,16 +249,17 @@ fn entry<T>(entries: &mut [T], index: u64) -> Option<&mut T> {
 
 /// A step's kind by its word or its number.
 fn kind(word: &str) -> Option<u16> {
-    let by_word = (Step::START..=Step::RELEASE).find(|&kind| kind_word(kind) == word);
+    let by_word = Step::KINDS
+        .into_iter()
+        .find(|&kind| kind_word(kind) == word);
     by_word.or_else(|| read_number(word).map(cut))
 }
 
 fn kind_word(kind: u16) -> String {
-    match kind {
-        Step::START..=Step::RELEASE => {
-            String::from_utf8_lossy(WORDS[usize::from(kind)]).into_owned()
-        }
-        _ => kind.to_string(),
+    if Step::KINDS.contains(&kind) {
+        String::from_utf8_lossy(WORDS[usize::from(kind)]).into_owned()
+    } else {
+        kind.to_string()
     }
 }
 

@@ -7,8 +7,8 @@ use crate::step::Step;
 pub const LINE_LIMIT: usize = 255;
 
 /// The words of the script. From 1 on a word stands at its step's kind.
-pub const WORDS: [&[u8]; 8] = [
-    b"board", b"start", b"send", b"request", b"deliver", b"rest", b"tick", b"release",
+pub const WORDS: [&[u8]; 9] = [
+    b"board", b"start", b"send", b"request", b"deliver", b"rest", b"tick", b"release", b"move",
 ];
 
 #[derive(Clone, Copy)]
@@ -35,6 +35,7 @@ pub(crate) fn letters(kind: u16) -> &'static [Letter] {
         Step::SEND => &[Letter::Unit, Letter::Other, Letter::Slot],
         Step::REQUEST | Step::RELEASE => &[Letter::Unit, Letter::Slot],
         Step::DELIVER => &[Letter::Slot],
+        Step::MOVE => &[Letter::Unit, Letter::Other],
         _ => unreachable!("kind {kind} has no word"),
     }
 }
@@ -136,7 +137,7 @@ pub fn read_line(line: &[u8], first: bool) -> Result<Record, Refusal> {
 /// Writes a step as a line with its byte 10, from place `at` on, and gives
 /// the number of bytes written. [16, 27]
 pub fn write_step(mut step: Step, out: &mut [u8], at: usize) -> Result<usize, Refusal> {
-    if !(Step::START..=Step::RELEASE).contains(&step.kind) {
+    if !Step::KINDS.contains(&step.kind) {
         return Err(NO_SUCH_KIND);
     }
     let mut line = WORDS[usize::from(step.kind)].to_vec();

@@ -1,8 +1,9 @@
-//! The seven steps, and the run over a list of them.
+//! The eight steps, and the run over a list of them.
 
 use crate::board::{Board, Kind, Slot, State, Unit, DEBT_LIMIT, FULL_WEIGHT};
 use crate::refusal::*;
 use crate::rounds::Rounds;
+use std::ops::RangeInclusive;
 
 /// A step record. Fields that its kind has no letter for are not read.
 #[derive(Clone, Copy, Debug, Default, PartialEq, Eq)]
@@ -21,6 +22,9 @@ impl Step {
     pub const REST: u16 = 5;
     pub const TICK: u16 = 6;
     pub const RELEASE: u16 = 7;
+    pub const MOVE: u16 = 8;
+    /// A kind outside them is refused by 16.
+    pub const KINDS: RangeInclusive<u16> = Step::START..=Step::MOVE;
 
     const fn new(kind: u16, unit: u16, other: u16, slot: u16) -> Step {
         Step {
@@ -58,6 +62,10 @@ impl Step {
     pub const fn release(unit: u16, slot: u16) -> Step {
         Step::new(Step::RELEASE, unit, 0, slot)
     }
+
+    pub const fn move_under(unit: u16, parent: u16) -> Step {
+        Step::new(Step::MOVE, unit, parent, 0)
+    }
 }
 
 /// The part of a weight that a send gives away: the scope document's share,
@@ -92,6 +100,7 @@ impl Board {
             Step::REST => self.rest(step.unit),
             Step::TICK => self.tick(step.unit),
             Step::RELEASE => self.release(step.unit, step.slot),
+            Step::MOVE => self.move_under(step.unit, step.other),
             _ => Err(NO_SUCH_KIND),
         };
         match outcome {
@@ -271,6 +280,19 @@ impl Board {
         Ok(())
     }
 
+    /// The unit gets another parent in whatever state it is, or the one that it has:
+    /// only then an accepted step leaves the board as it was (M-108). Its returns
+    /// under way go on to where they were sent. A p lower than u is a unit of the
+    /// board, so it is not looked at for 13. [13 for u alone, 47]
+    fn move_under(&mut self, u: u16, p: u16) -> Result<(), Refusal> {
+        let unit = self.unit_index(u)?;
+        if u == 0 || p >= u {
+            return Err(NO_SUCH_MOVE);
+        }
+        self.parents[unit] = p;
+        Ok(())
+    }
+
     /// [31, 32]
     fn must_be_ready(&self, unit: usize) -> Result<(), Refusal> {
         if self.units[unit].state != State::Active {
@@ -299,6 +321,7 @@ impl Board {
             Err(SLOT_FILLED)
         }
     }
+
     /// [44]
     fn one_more_created(&self, unit: usize) -> Result<u32, Refusal> {
         self.created[unit].checked_add(1).ok_or(CREATED_FULL)

@@ -124,6 +124,10 @@ fn s1() {
     unsound(|b| b.parents[0] = 1);
     sound(|b| b.parents[2] = 1);
     unsound(|b| b.parents[2] = 2);
+    // The return of unit 3 goes to 1, whatever parent 3 has by now (M-108).
+    sound(|b| b.parents[3] = 0);
+    sound(|b| b.parents[3] = 2);
+    unsound(|b| b.parents[3] = 3);
     unsound(|b| b.parents[4] = 65_535);
     unsound(|b| b.parents[5] = 1);
     unsound(|b| b.parents[63] = 1);
@@ -190,9 +194,19 @@ fn s3() {
     unsound(|b| b.slots[1].from = 0);
     unsound(|b| b.slots[1].from = 5);
     unsound(|b| b.slots[1].from = 65_535);
-    unsound(|b| b.slots[1].from = 4);
-    unsound(|b| b.slots[1].to = 0);
     unsound(|b| b.slots[1].weight = 0);
+    // To 1, which is the parent of 3: the receiver is lower than the sender, and
+    // need not be its parent (M-108).
+    sound(|b| b.slots[1].from = 2);
+    sound(|b| b.slots[1].from = 4);
+    unsound(|b| b.slots[1].from = 1);
+    sound(|b| b.slots[1].to = 0);
+    sound(|b| b.slots[1].to = 2);
+    for to in [3, 4, 5, 64, 65_535] {
+        unsound(|b| b.slots[1].to = to);
+    }
+    unsound(|b| (b.slots[1].from, b.slots[1].to) = (5, 4));
+    unsound(|b| (b.slots[1].from, b.slots[1].to) = (0, 0));
     unsound(|b| b.slots[0].to = 1);
     unsound(|b| b.slots[0].weight = 1);
     let supply = Slot {

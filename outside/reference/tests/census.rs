@@ -59,6 +59,7 @@ fn choices_by_the_formula() {
     assert_eq!(choices(3, 2).len(), 41);
 }
 
+/// Seven kinds: a census counts no moves (M-108).
 #[test]
 fn choices_are_in_range_and_no_one_comes_twice() {
     let (n, m) = (3, 2);

@@ -132,6 +132,64 @@ fn return_after_a_release() {
     assert_eq!(listing, expected.replace('|', "\t"));
 }
 
+/// The chain 0, 1, 2 with d = 1. Unit 2 is moved while it is active, and its
+/// release goes to 0; then it is moved while that return is under way (M-108).
+#[test]
+fn moves() {
+    let script = "board|2|1|0|1\nstart|2\nsend|2|1|0\nmove|2|0\nmove|0|0\nmove|1|1\n\
+        move|2|3\nmove|3|0\nmove|1|0\ndeliver|0\nrest|2\ntick|2\nrelease|2|0\nmove|2|1\n\
+        rest|1\ndeliver|0\nmove|2\nmove|2|00\nmove|2|x\nMove|2|0\ntick|1\nrelease|1|1\n\
+        deliver|1\nmove|2|0\ndeliver|1\nmove|2|0\n";
+    let expected = "step|answer|debt|state\n\
+        0|0|0|finished\n\
+        1|0|16777216|working\n\
+        2|0|16777216|working\n\
+        3|0|16777216|working\n\
+        4|47|16777216|working\n\
+        5|47|16777216|working\n\
+        6|47|16777216|working\n\
+        7|13|16777216|working\n\
+        8|0|16777216|working\n\
+        9|0|16777216|working\n\
+        10|0|16777216|working\n\
+        11|0|16777216|working\n\
+        12|0|16777216|working\n\
+        13|0|16777216|working\n\
+        14|0|16777216|working\n\
+        15|0|16384|working\n\
+        16|23|16384|working\n\
+        17|28|16384|working\n\
+        18|24|16384|working\n\
+        19|22|16384|working\n\
+        20|0|16384|working\n\
+        21|0|16384|working\n\
+        22|0|0|finished\n\
+        23|0|0|finished\n\
+        24|35|0|finished\n\
+        25|0|0|finished\n";
+    let listing = listing(script.replace('|', "\t").as_bytes());
+    assert_eq!(listing, expected.replace('|', "\t"));
+}
+
+/// The same tree with d = 0. The return goes to unit 1, where it was sent, and the
+/// debt stands, although its sender is under 0 when it arrives (M-108).
+#[test]
+fn a_return_goes_where_it_was_sent() {
+    let script = "board|1|0|0|1\nstart|2\nrest|2\nrelease|2|0\nmove|2|0\ndeliver|0\n\
+        release|1|0\ndeliver|0";
+    let expected = "step|answer|debt|state\n\
+        0|0|0|finished\n\
+        1|0|16777216|working\n\
+        2|0|16777216|working\n\
+        3|0|16777216|working\n\
+        4|0|16777216|working\n\
+        5|0|16777216|working\n\
+        6|0|16777216|working\n\
+        7|0|0|finished\n";
+    let listing = listing(script.replace('|', "\t").as_bytes());
+    assert_eq!(listing, expected.replace('|', "\t"));
+}
+
 #[test]
 fn first_line() {
     refused(b"", BOARD_MISPLACED);

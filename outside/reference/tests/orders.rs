@@ -35,7 +35,7 @@ fn busy() -> Board {
 }
 
 /// A step of each kind, its fields all different. Fields without a letter are not
-/// read, and a send's v has one, but is not touched.
+/// read, and a send's v and a move's p have one, but are not touched.
 #[test]
 fn touched_by_each_kind() {
     let step = |kind| Step {
@@ -55,8 +55,9 @@ fn touched_by_each_kind() {
     is(&board, Step::REST, Some(7), None);
     is(&board, Step::TICK, Some(7), None);
     is(&board, Step::RELEASE, Some(7), Some(3));
+    is(&board, Step::MOVE, Some(7), None);
     is(&board, 0, None, None);
-    is(&board, 8, None, None);
+    is(&board, 9, None, None);
     is(&board, 65_535, None, None);
 
     // A delivery touches whom its message goes to, whatever its kind.
@@ -115,13 +116,30 @@ fn premises() {
     assert!(!both(Step::send(1, 0, 1), Step::send(1, 0, 2)));
     assert!(!both(Step::deliver(0), Step::send(2, 1, 0)));
     assert!(!both(Step::deliver(0), Step::send(1, 0, 1)));
+    // Moves: of two units, beside other steps, and with a p that the other step
+    // touches or that is its v or p (M-108).
+    assert!(both(Step::move_under(1, 0), Step::move_under(2, 0)));
+    assert!(both(Step::move_under(2, 1), Step::move_under(3, 2)));
+    assert!(both(Step::move_under(3, 2), Step::rest(2)));
+    assert!(both(Step::move_under(2, 1), Step::deliver(0)));
+    assert!(both(Step::move_under(3, 2), Step::send(1, 3, 1)));
+    assert!(both(Step::move_under(2, 1), Step::send(0, 1, 1)));
+    assert!(both(Step::move_under(1, 0), Step::tick(3)));
+    // The unit of a move, and its being a receiver.
+    assert!(!both(Step::move_under(3, 2), Step::move_under(3, 0)));
+    assert!(!both(Step::move_under(3, 2), Step::tick(3)));
+    assert!(!both(Step::move_under(1, 0), Step::deliver(0)));
+    // A refused move.
+    assert!(!both(Step::move_under(1, 1), Step::rest(2)));
+    assert!(!both(Step::move_under(4, 0), Step::rest(2)));
     // Unit 0's rest changes the debt.
     assert!(!both(Step::rest(0), Step::rest(1)));
+    assert!(!both(Step::rest(0), Step::move_under(1, 0)));
     // Refused.
     assert!(!both(Step::rest(1), Step::rest(3)));
     assert!(!both(Step::rest(1), Step::start(2)));
     let no_kind = Step {
-        kind: 8,
+        kind: 9,
         ..Step::default()
     };
     assert!(!both(Step::rest(1), no_kind));
@@ -165,6 +183,20 @@ fn pairs() {
          send|0|1|0;rest|1|gives|0|0|and|0|0|same\n\
          send|0|9|0;deliver|2|gives|13|14|and|14|13|same\n",
     );
+    // A release before the move goes to the old parent (M-108).
+    tells(
+        "board|2|0|0|1|2\nstart|3\nsend|3|2|0\nmove|3|0;rest|3\nmove|3|2;move|2|0\n\
+         move|3|3;move|2|2\nmove|3|0;deliver|0\nrest|3\nmove|3|0;release|3|1\n\
+         release|3|1;move|2|0\nmove|3|1\nrelease|3|1\nmove|3|0;deliver|1\nmove|1|0;deliver|1\n",
+        "move|3|0;rest|3|gives|0|0|and|0|0|same\n\
+         move|3|2;move|2|0|gives|0|0|and|0|0|same\n\
+         move|3|3;move|2|2|gives|47|47|and|47|47|same\n\
+         move|3|0;deliver|0|gives|0|0|and|0|0|same\n\
+         move|3|0;release|3|1|gives|0|0|and|0|0|differ\n\
+         release|3|1;move|2|0|gives|0|0|and|0|0|same\n\
+         move|3|0;deliver|1|gives|0|0|and|0|0|same\n\
+         move|1|0;deliver|1|gives|0|0|and|0|0|same\n",
+    );
     // Before a board line, and behind a refused one, the board is not sound.
     let unsound = "rest|0;rest|1|gives|30|30|and|30|30|same\n";
     tells("round\nrest|0;rest|1\n", unsound);
@@ -184,6 +216,9 @@ fn what_is_no_line() {
         ";",
         "start\t0;",
         "start\t0;round",
+        "move\t1",
+        "move\t1\t0\t0",
+        "move\t1\t0;move\t1\t00",
         "start\t0; start\t0",
         "start\t0;start\t0;start\t0",
         "board\t1\t0;start\t0",

@@ -146,6 +146,10 @@ fn what_steps_count() {
     counts(&mut board, Step::rest(1), &[]);
     counts(&mut board, Step::rest(2), &[]);
     visit(&mut board, &[1]);
+    // Moves, of a visited unit, too (M-108).
+    counts(&mut board, Step::move_under(2, 0), &[]);
+    counts(&mut board, Step::move_under(1, 0), &[]);
+    counts(&mut board, Step::move_under(2, 1), &[]);
     counts(&mut board, Step::tick(2), &[]);
     counts(&mut board, Step::release(2, 0), &[]);
     // Returns to a waiting unit and to unit 0.
@@ -556,6 +560,31 @@ fn work_behind_the_visits() {
     visit(&mut board, &[1, 0, 0]);
     take(&mut board, &[Step::deliver(1)]);
     assert_eq!(visit(&mut board, &[1]), Finding::Quiet);
+}
+
+/// Moves are steps that leave marks and totals (M-108), also of units that are
+/// visited or still to visit. The return of unit 2 goes to 1, and is no work.
+#[test]
+fn moves_between_the_visits() {
+    let mut board = open(1, 0, &[0, 1]);
+    take(&mut board, &[Step::start(2), Step::rest(2)]);
+    begin(&mut board);
+    take(&mut board, &[Step::move_under(2, 0)]);
+    visit(&mut board, &[2]);
+    take(&mut board, &[Step::move_under(2, 1)]);
+    assert_eq!(board.rounds, rounds(Round::One, &[2], 1, 0));
+    visit(&mut board, &[0]);
+    take(&mut board, &[Step::release(2, 0), Step::move_under(2, 0)]);
+    visit(&mut board, &[1]);
+    take(&mut board, &[Step::move_under(1, 0)]);
+    assert_eq!(board.rounds, rounds(Round::Two, &[], 1, 0));
+    visit(&mut board, &[0, 2]);
+    take(&mut board, &[Step::deliver(0), Step::move_under(2, 1)]);
+    assert_eq!(board.rounds, rounds(Round::Two, &[0, 2], 1, 1));
+    refuse(&board, Step::move_under(0, 0), NO_SUCH_MOVE);
+    assert_eq!(visit(&mut board, &[1]), Finding::Quiet);
+    take(&mut board, &[Step::move_under(2, 0)]);
+    assert_eq!(board.rounds, Rounds::BLANK);
 }
 
 #[test]

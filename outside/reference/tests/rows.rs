@@ -49,6 +49,24 @@ fn numbers() {
 }
 
 #[test]
+fn edits_of_returns() {
+    // To the sender's parent, to another lower unit (M-108), to itself, past n.
+    tells(
+        "blank\nchain|1|0|2\neach|returns\nreturn slot|0|2|1|1\nreturn slot|0|2|0|1\n\
+         return slot|0|2|2|1\nreturn slot|0|1|2|1\nreturn slot|0|3|1|1\nreturn slot|0|0|0|1\n\
+         return slot|0|2|0|0\n",
+        "returns\n\
+         return slot|0|2|1|1|sound|38|deep|0|working\n\
+         return slot|0|2|0|1|sound|38|deep|0|working\n\
+         return slot|0|2|2|1|unsound|30|30|30\n\
+         return slot|0|1|2|1|unsound|30|30|30\n\
+         return slot|0|3|1|1|unsound|30|30|30\n\
+         return slot|0|0|0|1|unsound|30|30|30\n\
+         return slot|0|2|0|0|unsound|30|30|30\n",
+    );
+}
+
+#[test]
 fn edits_of_counts_and_rounds() {
     tells(
         "blank\nopen|2|0|1\neach|edits\n\
@@ -109,6 +127,32 @@ fn events() {
          debt|0|0|0|0|unsound|30|30|30\n\
          begin|30|0|30|kept\n\
          visit|9|refused|30|0|30|kept\n",
+    );
+    // Moves, by their word and by their kind, the slot not read (M-108).
+    tells(
+        "blank\nchain|1|0|2\nrun|moves\ndepth|2\nmove|2|0\nmove|2|0\ndepth|2\nmove|2|2\n\
+         move|0|0\nmove|3|0\n8|2|1|7\nstart|2\nrest|2\nrelease|2\nmove|2|0\ndeliver|0\n9|1\n\
+         debt|0\nmove|2|1\nmove|3\n",
+        "moves\n\
+         depth|2|deep|2\n\
+         move|2|0|0|0|0|finished\n|parent|2|0\n\
+         move|2|0|0|0|0|finished|kept\n\
+         depth|2|deep|1\n\
+         move|2|2|0|47|0|finished|kept\n\
+         move|0|0|0|47|0|finished|kept\n\
+         move|3|0|0|13|0|finished|kept\n\
+         move|2|1|7|0|0|finished\n|parent|2|1\n\
+         start|2|0|0|0|16777216|working\n|unit|2|active|16777216|0|free\n|counts|2|1|1\n\
+         rest|2|0|0|0|16777216|working\n|unit|2|waiting|16777216|0|free\n\
+         release|2|0|0|0|16777216|working\n|unit|2|idle|0|0|free\n\
+         |slot|0|return|2|1|16777216\n\
+         move|2|0|0|0|16777216|working\n|parent|2|0\n\
+         deliver|0|0|0|0|16777216|working\n|unit|1|waiting|16777216|0|free\n\
+         |slot|0|empty|0|0|0\n\
+         9|1|0|0|16|16777216|working|kept\n\
+         debt|0|0|0|0|unsound|30|30|30\n\
+         move|2|1|0|30|0|30|kept\n\
+         move|3|0|0|30|0|30|kept\n",
     );
     // What unit 0 created is still under way.
     tells(

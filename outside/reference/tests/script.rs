@@ -87,6 +87,8 @@ fn lines_read() {
         ("rest\t1", Step::rest(1)),
         ("tick\t0", Step::tick(0)),
         ("release\t1\t2", Step::release(1, 2)),
+        ("move\t63\t0", Step::move_under(63, 0)),
+        ("move\t0\t65535", Step::move_under(0, 65_535)),
     ] {
         let read = read_line(line.as_bytes(), false);
         assert_eq!(read, Ok(Record::Step(step)));
@@ -118,6 +120,11 @@ fn lines_refused() {
         ("start 1", false, UNKNOWN_WORD),
         (" start\t1", false, UNKNOWN_WORD),
         ("\tstart\t1", false, UNKNOWN_WORD),
+        ("Move\t1\t0", false, UNKNOWN_WORD),
+        ("mov\t1\t0", false, UNKNOWN_WORD),
+        ("moved\t1\t0", false, UNKNOWN_WORD),
+        ("move 1 0", false, UNKNOWN_WORD),
+        ("8\t1\t0", false, UNKNOWN_WORD),
         // 22 before 25.
         ("boards\t2\t1", true, UNKNOWN_WORD),
         ("start\t1", true, BOARD_MISPLACED),
@@ -126,6 +133,8 @@ fn lines_refused() {
         ("board", false, BOARD_MISPLACED),
         ("start", true, BOARD_MISPLACED),
         ("start\tx", true, BOARD_MISPLACED),
+        ("move\t1\t0", true, BOARD_MISPLACED),
+        ("move", true, BOARD_MISPLACED),
         ("board", true, FIELD_COUNT),
         ("board\t2", true, FIELD_COUNT),
         ("start", false, FIELD_COUNT),
@@ -138,6 +147,10 @@ fn lines_refused() {
         ("rest", false, FIELD_COUNT),
         ("tick\t1\t2", false, FIELD_COUNT),
         ("release\t1", false, FIELD_COUNT),
+        ("move", false, FIELD_COUNT),
+        ("move\t1", false, FIELD_COUNT),
+        ("move\t1\t0\t0", false, FIELD_COUNT),
+        ("move\t1\t0\t", false, FIELD_COUNT),
         // 23 before 24.
         ("send\tx", false, FIELD_COUNT),
         ("board\tx", true, FIELD_COUNT),
@@ -148,6 +161,7 @@ fn lines_refused() {
         ("board\t01\t0", false, BOARD_MISPLACED),
         ("start\t00\t0", false, FIELD_COUNT),
         ("send\t1\t02", false, FIELD_COUNT),
+        ("move\t01", false, FIELD_COUNT),
         ("board\t01", true, FIELD_COUNT),
         ("start\t00", false, PADDED_NUMBER),
         ("start\t07", false, PADDED_NUMBER),
@@ -155,6 +169,8 @@ fn lines_refused() {
         ("send\t1\t02\t3", false, PADDED_NUMBER),
         ("send\t1\t2\t03", false, PADDED_NUMBER),
         ("send\t01\t02\t03", false, PADDED_NUMBER),
+        ("move\t01\t0", false, PADDED_NUMBER),
+        ("move\t1\t00", false, PADDED_NUMBER),
         ("board\t01\t0\t0\t0", true, PADDED_NUMBER),
         ("board\t1\t00\t0\t0", true, PADDED_NUMBER),
         ("board\t1\t0\t00\t0", true, PADDED_NUMBER),
@@ -164,6 +180,8 @@ fn lines_refused() {
         ("send\t01\tx\t3", false, PADDED_NUMBER),
         ("send\tx\t2\t03", false, PADDED_NUMBER),
         ("send\t\t02\t65536", false, PADDED_NUMBER),
+        ("move\tx\t00", false, PADDED_NUMBER),
+        ("move\t01\t", false, PADDED_NUMBER),
         ("board\t01\t\t0", true, PADDED_NUMBER),
         ("board\t\t0\t00", true, PADDED_NUMBER),
         ("start\t", false, NOT_A_NUMBER),
@@ -174,6 +192,11 @@ fn lines_refused() {
         ("start\t65536", false, NOT_A_NUMBER),
         ("send\t1\t2\t", false, NOT_A_NUMBER),
         ("send\t1\t\t2", false, NOT_A_NUMBER),
+        ("move\t\t0", false, NOT_A_NUMBER),
+        ("move\t1\t", false, NOT_A_NUMBER),
+        ("move\t1\t-1", false, NOT_A_NUMBER),
+        ("move\t1\t65536", false, NOT_A_NUMBER),
+        ("move\t1\t0\r", false, NOT_A_NUMBER),
         ("board\t\t", true, NOT_A_NUMBER),
         ("board\t2\t1\t", true, NOT_A_NUMBER),
         ("board\t2\t1\t0\t-1", true, NOT_A_NUMBER),
@@ -200,6 +223,8 @@ fn steps_written() {
         (Step::rest(4), "rest\t4\n"),
         (Step::tick(63), "tick\t63\n"),
         (Step::release(9, 99), "release\t9\t99\n"),
+        (Step::move_under(10, 9), "move\t10\t9\n"),
+        (Step::move_under(65_535, 0), "move\t65535\t0\n"),
     ] {
         let line = line.as_bytes();
         let mut out = [b'.'; 30];
@@ -271,8 +296,9 @@ fn accepted_lines_are_written_so() {
             }
         }
     }
-    // Of the texts of one field 935 are numbers, of the few texts 9.
-    assert_eq!(accepted, 4 * 935 + 2 * 9 * 9 + 9 * 9 * 9);
+    // Of the texts of one field 935 are numbers, of the few texts 9. Four words
+    // take one number, three take two, and one takes three.
+    assert_eq!(accepted, 4 * 935 + 3 * 9 * 9 + 9 * 9 * 9);
 }
 
 #[test]
@@ -297,7 +323,7 @@ fn steps_not_written() {
     for at in [3, 8, 9, 10, usize::MAX] {
         assert_eq!(write_step(step, &mut out, at), Err(NO_ROOM));
     }
-    for kind in [0, 8, 65_535] {
+    for kind in [0, 9, 65_535] {
         let step = Step { kind, ..step };
         assert_eq!(write_step(step, &mut out, 0), Err(NO_SUCH_KIND));
         assert_eq!(write_step(step, &mut out, 10), Err(NO_SUCH_KIND));
@@ -312,4 +338,10 @@ fn steps_not_written() {
     };
     assert_eq!(write_step(junk, &mut out, 0), Ok(7));
     assert_eq!(out, *b"rest\t1\n..");
+    let junk = Step {
+        kind: Step::MOVE,
+        ..junk
+    };
+    assert_eq!(write_step(junk, &mut out, 0), Ok(9));
+    assert_eq!(out, *b"move\t1\t2\n");
 }

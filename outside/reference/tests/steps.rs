@@ -1,4 +1,4 @@
-//! The seven steps, their refusals in order, and the run.
+//! The steps but the move, their refusals in order, and the run.
 
 use reference::refusal::*;
 use reference::*;
@@ -369,7 +369,7 @@ fn release_refused() {
 
 #[test]
 fn no_such_kind() {
-    for kind in [0, 8, 65_535] {
+    for kind in [0, 9, 65_535] {
         let step = Step {
             kind,
             ..Step::default()
@@ -383,7 +383,7 @@ fn no_such_kind() {
 fn unsound_before_all() {
     let mut board = mixed();
     board.debt += 1;
-    for kind in 0..=8 {
+    for kind in 0..=9 {
         let step = Step {
             kind,
             unit: 99,

@@ -10,8 +10,8 @@ const SCRIPT_LIMIT: usize = 65_535;
 const OPENING: [u64; 9] = [11, 12, 21, 22, 23, 24, 25, 26, 28];
 /// The answers of the later lines. 36 needs more grants than a script has room
 /// for, and 44 more sends and starts; 11, 12 and 26 are never theirs.
-const LATER: [u64; 19] = [
-    0, 13, 14, 21, 22, 23, 24, 25, 28, 31, 32, 33, 34, 35, 37, 38, 39, 40, 41,
+const LATER: [u64; 20] = [
+    0, 13, 14, 21, 22, 23, 24, 25, 28, 31, 32, 33, 34, 35, 37, 38, 39, 40, 41, 47,
 ];
 
 /// Checks a listing against its script and names the first fault.
@@ -27,6 +27,9 @@ pub fn check_listing(script: &[u8], listing: &[u8]) -> Result<(), String> {
         script_lines.pop();
     }
 
+    // An accepted board line has a word, M and d before the parents of units 1 on.
+    let units = script_lines.first().map_or(0, |line| fields_of(line).len());
+    let units = (units as u64).saturating_sub(2);
     let mut debt = 0;
     let mut count = 0;
     for (number, line) in body.split(|&byte| byte == b'\n').enumerate() {
@@ -87,6 +90,15 @@ pub fn check_listing(script: &[u8], listing: &[u8]) -> Result<(), String> {
         if answer == 28 && is_plain(script_line) {
             return Err(fault("28, but no number is padded"));
         }
+        match move_answer(script_line, units) {
+            Some(expected) if answer != expected => {
+                return Err(fault("not the answer of this move"));
+            }
+            None if answer == 47 || answer == 0 && word == b"move" => {
+                return Err(fault("not a move that can be read"));
+            }
+            _ => (),
+        }
         if answer != 0 && next_debt != debt {
             return Err(fault("refused, but the debt changed"));
         }
@@ -118,6 +130,25 @@ pub fn check_listing(script: &[u8], listing: &[u8]) -> Result<(), String> {
         return Err(format!("{count} lines for {lines} lines of the script"));
     }
     Ok(())
+}
+
+fn fields_of(line: &[u8]) -> Vec<&[u8]> {
+    line.split(|&byte| byte == b'\t').collect()
+}
+
+/// What a move that can be read is answered on a board of so many units, whatever
+/// its state (M-108).
+fn move_answer(line: &[u8], units: u64) -> Option<u64> {
+    let [b"move", unit, parent] = fields_of(line)[..] else {
+        return None;
+    };
+    let read = |field| number_of(field).filter(|&number| number <= 65_535);
+    let (unit, parent) = (read(unit)?, read(parent)?);
+    Some(match unit {
+        _ if unit >= units => 13,
+        _ if parent >= unit => 47,
+        _ => 0,
+    })
 }
 
 /// Whether all fields behind the word are numbers without leading zeros.

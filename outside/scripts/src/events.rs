@@ -114,18 +114,22 @@ enum Mood {
     Starve,
 }
 
+/// The places of a beginning and of a visit in a mood's weights, behind the steps.
+const BEGIN: usize = 8;
+const VISIT: usize = 9;
+
 /// The least length of a list that has room to starve a unit.
 const LONG: usize = 100;
 
 impl Mood {
-    /// How gladly each event is taken: the seven steps in their order, a
+    /// How gladly each event is taken: the eight steps in their order, a
     /// beginning where no round is open, a visit.
-    fn weights(self) -> [usize; 9] {
+    fn weights(self) -> [usize; 10] {
         match self {
-            Mood::Work => [20, 30, 10, 16, 8, 2, 3, 6, 10],
-            Mood::Drain => [0, 0, 0, 20, 20, 12, 12, 4, 6],
-            Mood::Count => [1, 1, 0, 1, 12, 2, 1, 20, 40],
-            Mood::Starve => [20, 40, 40, 30, 1, 2, 2, 6, 6],
+            Mood::Work => [20, 30, 10, 16, 8, 2, 3, 4, 6, 10],
+            Mood::Drain => [0, 0, 0, 20, 20, 12, 12, 4, 4, 6],
+            Mood::Count => [1, 1, 0, 1, 12, 2, 1, 2, 20, 40],
+            Mood::Starve => [20, 40, 10, 30, 1, 2, 2, 2, 6, 6],
         }
     }
 }
@@ -163,17 +167,17 @@ impl Walk<'_> {
         let mut weights = self.mood.weights();
         // A beginning that drops a round is rare, and a visit without one, too.
         if self.board.rounds.open != Round::None {
-            weights[7] = 6 * usize::from(self.random.chance(1, 8));
+            weights[BEGIN] = 6 * usize::from(self.random.chance(1, 8));
         } else if !any {
-            weights[8] = 0;
+            weights[VISIT] = 0;
         }
         // Of events that may be refused many are visits.
         if any {
-            weights[8] += 40;
+            weights[VISIT] += 40;
         }
         loop {
-            let kind = self.random.weighted(&weights) as u16 + 1;
-            let event = self.event(kind, past);
+            let place = self.random.weighted(&weights);
+            let event = self.event(place, past);
             let outcome = event.take(&mut self.board);
             let verdict = matches!(outcome, Ok(Some(Finding::Quiet | Finding::Unsettled)));
             if verdict && !matches!(self.mood, Mood::Starve) {
@@ -183,21 +187,24 @@ impl Walk<'_> {
                 return event;
             }
             // Nothing of what the mood likes may be left to do.
-            weights.iter_mut().take(7).for_each(|weight| *weight += 1);
+            weights[..BEGIN].iter_mut().for_each(|weight| *weight += 1);
         }
     }
 
-    /// An event of a kind: 1 to 7 are steps, 8 a beginning, 9 a visit. Fields
-    /// that a step has no letter for are 0.
-    fn event(&mut self, kind: u16, past: usize) -> Event {
+    /// An event by its place in the weights. Fields that a step has no letter for
+    /// are 0.
+    fn event(&mut self, place: usize, past: usize) -> Event {
+        let kind = place as u16 + Step::START;
         let (n, m) = (usize::from(self.board.n), usize::from(self.board.m));
         let mut unit = self.random.below(n + past) as u16;
         if let (Mood::Starve, Step::SEND | Step::REQUEST) = (self.mood, kind) {
-            unit = self.poorest().unwrap_or(unit);
+            unit = self.poorest(kind).unwrap_or(unit);
         }
         let other = self.random.below(n + past) as u16;
         let slot = self.random.below(m + past) as u16;
         Event::Step(match kind {
+            _ if place == BEGIN => return Event::Begin,
+            _ if place == VISIT => return Event::Visit(unit),
             Step::START => Step::start(unit),
             Step::SEND => Step::send(unit, other, slot),
             Step::REQUEST => Step::request(unit, slot),
@@ -205,16 +212,17 @@ impl Walk<'_> {
             Step::REST => Step::rest(unit),
             Step::TICK => Step::tick(unit),
             Step::RELEASE => Step::release(unit, slot),
-            8 => return Event::Begin,
-            _ => return Event::Visit(unit),
+            _ => Step::move_under(unit, other),
         })
     }
-    /// The active unit with the least weight that may still send or ask.
-    fn poorest(&self) -> Option<u16> {
+
+    /// The active unit with the least weight that may still send, or ask.
+    fn poorest(&self, kind: u16) -> Option<u16> {
         let units = &self.board.units;
         let ready = |u: &u16| {
             let unit = units[usize::from(*u)];
-            unit.state == State::Active && !unit.suspended
+            let may = kind == Step::REQUEST || unit.weight > 1;
+            unit.state == State::Active && !unit.suspended && may
         };
         let weight = |u: &u16| units[usize::from(*u)].weight;
         (0..self.board.n).filter(ready).min_by_key(weight)

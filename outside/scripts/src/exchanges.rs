@@ -11,7 +11,7 @@ pub struct Exchange {
     pub line: usize,
     pub first: Step,
     pub second: Step,
-    /// Whether a send's v is a unit that the other step touches.
+    /// Whether a send's v or a move's p is a unit that the other step touches.
     pub through_other: bool,
 }
 
@@ -44,10 +44,11 @@ pub fn tidied(script: &[u8]) -> (Vec<u8>, usize) {
     (lines.join(&b'\n'), count)
 }
 
-/// Whether a send's v is a unit that the other step touches.
+/// Whether a send's v or a move's p is a unit that the other step touches.
 pub fn through_other(board: &Board, first: Step, second: Step) -> bool {
-    let names = |send: Step, step: Step| {
-        send.kind == Step::SEND && touched(board, step).unit == Some(send.other)
+    let names = |one: Step, step: Step| {
+        let has_other = matches!(one.kind, Step::SEND | Step::MOVE);
+        has_other && touched(board, step).unit == Some(one.other)
     };
     names(first, second) || names(second, first)
 }

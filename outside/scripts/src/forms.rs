@@ -343,6 +343,7 @@ pub fn soup(random: &mut Random) -> Vec<u8> {
                 b"send\t0\t0\t0\n",
                 b"deliver\t0\n",
                 b"rest\t0\n",
+                b"move\t1\t0\n",
             ])),
         }
     }

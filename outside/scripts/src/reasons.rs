@@ -8,7 +8,7 @@ use std::ops::RangeInclusive;
 /// is checked first, the other. 28 is its line's, and the other is what the
 /// step without the padding would get. For a send 33 is checked before 34
 /// (M-103).
-pub const STEP_PAIRS: [(u16, u16, u16); 37] = [
+pub const STEP_PAIRS: [(u16, u16, u16); 40] = [
     (Step::START, 28, 13),
     (Step::SEND, 28, 13),
     (Step::REQUEST, 28, 13),
@@ -16,6 +16,8 @@ pub const STEP_PAIRS: [(u16, u16, u16); 37] = [
     (Step::REST, 28, 13),
     (Step::TICK, 28, 13),
     (Step::RELEASE, 28, 13),
+    (Step::MOVE, 28, 13),
+    (Step::MOVE, 28, 47),
     (Step::START, 13, 37),
     (Step::SEND, 13, 14),
     (Step::SEND, 13, 31),
@@ -46,6 +48,7 @@ pub const STEP_PAIRS: [(u16, u16, u16); 37] = [
     (Step::RELEASE, 14, 40),
     (Step::RELEASE, 38, 34),
     (Step::RELEASE, 40, 34),
+    (Step::MOVE, 13, 47),
 ];
 
 /// Every reason that a step has to be refused, in no order.
@@ -64,6 +67,7 @@ pub fn step_reasons(board: &Board, step: Step) -> Vec<u16> {
     reason(13, &[kind], no_unit || no_other);
     reason(14, &with_slot, step.slot >= board.m);
     reason(37, &[S::START], board.debt > 0);
+    reason(47, &[S::MOVE], step.unit == 0 || step.other >= step.unit);
     if step.unit < board.n {
         let unit = board.units[usize::from(step.unit)];
         let active = unit.state == State::Active;
@@ -156,7 +160,7 @@ pub fn line_reasons(line: &[u8], first: bool) -> Vec<u16> {
                     .any(|(parent, unit)| matches!(parent, Ok(parent) if *parent >= unit)),
             );
         }
-        Some(word) => reason(23, count != [1, 3, 2, 1, 1, 1, 2][word - 1]),
+        Some(word) => reason(23, count != [1, 3, 2, 1, 1, 1, 2, 2][word - 1]),
         None => (),
     }
     reasons

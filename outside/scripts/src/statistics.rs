@@ -4,22 +4,22 @@ use crate::exchanges::exchanges;
 use crate::reasons::{line_reasons, step_reasons, unpadded, LINE_PAIRS, STEP_PAIRS};
 use reference::{
     is_padded, read_line, read_number, script_lines, walk, Board, Kind, Record, Slot, State, Step,
-    FULL_WEIGHT, UNITS, WORDS,
+    Unit, FULL_WEIGHT, UNITS, WORDS,
 };
 use std::collections::BTreeMap;
 use std::fmt;
 
 /// Every number that a script can meet: as the refusal of its first line or
 /// of the whole script, and as the answer of a later line.
-pub const REACHABLE: ([u16; 9], [u16; 19]) = (
+pub const REACHABLE: ([u16; 9], [u16; 20]) = (
     [11, 12, 21, 22, 23, 24, 25, 26, 28],
     [
-        0, 13, 14, 21, 22, 23, 24, 25, 28, 31, 32, 33, 34, 35, 37, 38, 39, 40, 41,
+        0, 13, 14, 21, 22, 23, 24, 25, 28, 31, 32, 33, 34, 35, 37, 38, 39, 40, 41, 47,
     ],
 );
 
 /// What an accepted step can bring about, or a board can be seen in.
-const EVENTS: [&str; 42] = [
+const EVENTS: [&str; 62] = [
     "start of unit 0",
     "start of another unit",
     "start after a finish",
@@ -58,10 +58,38 @@ const EVENTS: [&str; 42] = [
     "release after ticks",
     "release after a return, countdown below d",
     "release after a return, countdown 0 below d",
+    "return to unit 0, its sender moved since",
+    "return to another unit, its sender moved since",
+    "return to a unit not less deep than its sender",
+    "release to another parent than at first",
+    "release after a move in its wait",
+    "release with a return to another unit under way",
+    "move of an idle unit",
+    "move of an active unit",
+    "move of a suspended unit",
+    "move of a waiting unit, countdown above 0",
+    "move of a waiting unit, countdown 0",
+    "move under the same parent",
+    "move up, to a lesser depth",
+    "move down, to a greater depth",
+    "move to the same depth under another parent",
+    "move with units below it",
+    "move to another parent, its return under way",
+    "move to another parent, a return to it under way",
+    "move on a finished board",
+    "move on a quiet board that is not finished",
     "finish by a rest",
     "finish by a delivery",
     "two or more units suspended after a step",
     "debt of 2^26 or more after a step",
+];
+
+/// Why 47 refuses a move.
+const NO_MOVES: [&str; 4] = [
+    "47: unit 0",
+    "47: p is the unit itself",
+    "47: p above the unit, on the board",
+    "47: p not on the board",
 ];
 
 /// Forms that a line can have, counted in first lines and in later ones. The
@@ -95,8 +123,11 @@ pub struct Statistics {
     /// By the refusal of the first line or of the script, 0 if accepted.
     pub openings: [u64; 64],
     /// Of later lines, by answer, and by word: unknown words last.
-    pub answers: [[u64; 64]; 9],
+    pub answers: [[u64; 64]; WORDS.len() + 1],
     events: [u64; EVENTS.len()],
+    no_moves: [u64; NO_MOVES.len()],
+    /// Later lines refused by 22 whose word has move in it.
+    near_moves: u64,
     /// Of first lines, and of later ones.
     forms: [[u64; FORMS.len()]; 2],
     /// Later lines refused by 28 whose step would else be accepted.
@@ -110,7 +141,7 @@ pub struct Statistics {
     /// Scripts with neighbouring lines that may be exchanged.
     exchange_scripts: u64,
     /// Such neighbours by their kinds, the lower first, and those of them in which
-    /// a send's v is a unit that the other step touches (M-107).
+    /// a send's v or a move's p is a unit that the other step touches (M-107).
     exchanges: BTreeMap<(u16, u16), (u64, u64)>,
     /// By length, as the bounds say.
     lengths: [u64; LENGTHS.len()],
@@ -129,8 +160,10 @@ impl Default for Statistics {
             lines: 0,
             empty_lines: 0,
             openings: [0; 64],
-            answers: [[0; 64]; 9],
+            answers: [[0; 64]; WORDS.len() + 1],
             events: [0; EVENTS.len()],
+            no_moves: [0; NO_MOVES.len()],
+            near_moves: 0,
             forms: [[0; FORMS.len()]; 2],
             padded_alone: 0,
             not_ended: 0,
@@ -164,6 +197,10 @@ const SIZE_BOUNDS: [[usize; 5]; 3] = [[1, 5, 16, 32, 63], [1, 4, 16, 64, 255], [
 /// What came before in a script and its board does not tell.
 struct Past {
     finishes: u64,
+    /// The parents at first.
+    parents: [u16; UNITS],
+    /// By unit: whether it got another parent in its present wait.
+    moved: [bool; UNITS],
     /// By unit: the countdown at which the last return of its present wait was
     /// delivered to it, if one was. Below d, a restart would have held up the
     /// release (M-104).
@@ -173,6 +210,8 @@ struct Past {
 impl Past {
     const NONE: Past = Past {
         finishes: 0,
+        parents: [0; UNITS],
+        moved: [false; UNITS],
         returns: [None; UNITS],
     };
 
@@ -187,9 +226,10 @@ impl Past {
             }
         }
         // A wait ends with a release or with work.
-        for (at, unit) in self.returns.iter_mut().zip(&after.units) {
-            if unit.state != State::Waiting {
-                *at = None;
+        for u in 0..UNITS {
+            self.moved[u] |= before.parents[u] != after.parents[u];
+            if after.units[u].state != State::Waiting {
+                (self.returns[u], self.moved[u]) = (None, false);
             }
         }
     }
@@ -198,8 +238,31 @@ impl Past {
 /// The kinds of two lines that may be exchanged: all but a start, which always
 /// changes the debt.
 fn exchange_kinds() -> impl Iterator<Item = (u16, u16)> {
-    let from = |first| (first..=Step::RELEASE).map(move |second| (first, second));
-    (Step::SEND..=Step::RELEASE).flat_map(from)
+    let from = |first| (first..=Step::MOVE).map(move |second| (first, second));
+    (Step::SEND..=Step::MOVE).flat_map(from)
+}
+
+/// How far a unit is from unit 0. The board is sound.
+fn depth(board: &Board, mut unit: u16) -> u16 {
+    let mut depth = 0;
+    while unit != 0 {
+        unit = board.parents[usize::from(unit)];
+        depth += 1;
+    }
+    depth
+}
+
+/// No unit is active and no work under way, as where a drain begins.
+fn is_quiet(board: &Board) -> bool {
+    let active = |unit: &Unit| unit.state == State::Active;
+    !board.units.iter().any(active) && board.work_under_way() == 0
+}
+
+/// Whether a return from a unit to one of these is under way.
+fn return_under_way(board: &Board, from: u16, to: impl Fn(u16) -> bool) -> bool {
+    let slots = board.slots.iter();
+    let mut returns = slots.filter(|slot| slot.kind == Kind::Return);
+    returns.any(|slot| slot.from == from && to(slot.to))
 }
 
 fn kind_words((first, second): (u16, u16)) -> [String; 2] {
@@ -226,12 +289,16 @@ impl Statistics {
                     self.sizes[place][class(&SIZE_BOUNDS[place], size.into())] += 1;
                 }
                 before = board.clone();
+                past.parents = board.parents;
                 return;
             }
             self.lines += 1;
             self.empty_lines += u64::from(line.is_empty());
             let word = line.split(|&byte| byte == b'\t').next();
-            let word = WORDS.iter().position(|known| Some(*known) == word);
+            let word = word.unwrap_or_default();
+            let near_move = answer == 22 && word.windows(4).any(|part| part == b"move");
+            self.near_moves += u64::from(near_move);
+            let word = WORDS.iter().position(|known| *known == word);
             self.answers[word.unwrap_or(WORDS.len())][usize::from(answer)] += 1;
             if let Ok(Record::Step(step)) = read_line(line, false) {
                 if answer == 0 {
@@ -365,6 +432,17 @@ impl Statistics {
                 let message: Slot = before.slots[usize::from(step.slot)];
                 let to = before.units[usize::from(message.to)];
                 let to_root = message.to == 0;
+                let parent = before.parents[usize::from(message.from)];
+                let moved = message.kind == Kind::Return && message.to != parent;
+                met("return to unit 0, its sender moved since", moved && to_root);
+                met(
+                    "return to another unit, its sender moved since",
+                    moved && !to_root,
+                );
+                met(
+                    "return to a unit not less deep than its sender",
+                    moved && depth(before, message.to) >= depth(before, message.from),
+                );
                 let active = to.state == State::Active && !to.suspended;
                 let waiting = to.state == State::Waiting;
                 let idle = to.state == State::Idle;
@@ -424,7 +502,18 @@ impl Statistics {
                 met("tick to above 0", unit.countdown > 1);
                 met("tick to 0", unit.countdown == 1);
             }
-            _ => {
+            Step::RELEASE => {
+                let u = usize::from(step.unit);
+                let parent = before.parents[u];
+                met(
+                    "release to another parent than at first",
+                    parent != past.parents[u],
+                );
+                met("release after a move in its wait", past.moved[u]);
+                met(
+                    "release with a return to another unit under way",
+                    return_under_way(before, step.unit, |to| to != parent),
+                );
                 met("release with d = 0", before.d == 0);
                 met("release after ticks", before.d > 0);
                 let last_return = past.returns[usize::from(step.unit)];
@@ -433,6 +522,50 @@ impl Statistics {
                 met(
                     "release after a return, countdown 0 below d",
                     below == Some(0),
+                );
+            }
+            _ => {
+                let waiting = unit.state == State::Waiting;
+                let other = before.parents != after.parents;
+                met("move of an idle unit", unit.state == State::Idle);
+                met(
+                    "move of an active unit",
+                    unit.state == State::Active && !unit.suspended,
+                );
+                met("move of a suspended unit", unit.suspended);
+                met(
+                    "move of a waiting unit, countdown above 0",
+                    waiting && unit.countdown > 0,
+                );
+                met(
+                    "move of a waiting unit, countdown 0",
+                    waiting && unit.countdown == 0,
+                );
+                met("move under the same parent", !other);
+                let (from, to) = (depth(before, step.unit), depth(after, step.unit));
+                met("move up, to a lesser depth", to < from);
+                met("move down, to a greater depth", to > from);
+                met(
+                    "move to the same depth under another parent",
+                    other && to == from,
+                );
+                met(
+                    "move with units below it",
+                    other && before.parents.contains(&step.unit),
+                );
+                met(
+                    "move to another parent, its return under way",
+                    other && return_under_way(before, step.unit, |_| true),
+                );
+                let to_it = |slot: &Slot| slot.kind == Kind::Return && slot.to == step.unit;
+                met(
+                    "move to another parent, a return to it under way",
+                    other && before.slots.iter().any(to_it),
+                );
+                met("move on a finished board", before.debt == 0);
+                met(
+                    "move on a quiet board that is not finished",
+                    before.debt > 0 && is_quiet(before),
                 );
             }
         }
@@ -448,6 +581,15 @@ impl Statistics {
     fn see_refused(&mut self, step: Step, board: &Board, answer: u16) {
         let reasons = step_reasons(board, step);
         assert!(reasons.contains(&answer), "{step:?} answered {answer}");
+        if answer == 47 {
+            let cause = match (step.unit, step.other) {
+                (0, _) => 0,
+                (unit, parent) if parent == unit => 1,
+                (_, parent) if parent < board.n => 2,
+                _ => 3,
+            };
+            self.no_moves[cause] += 1;
+        }
         for also in reasons {
             if also != answer {
                 *self.pairs.entry((step.kind, answer, also)).or_default() += 1;
@@ -513,8 +655,11 @@ impl Statistics {
         let others = [
             (&"padded line of a step to accept", &self.padded_alone),
             (&"script without a last byte 10", &self.not_ended),
+            (&"word with move in it, refused by 22", &self.near_moves),
         ];
-        for (name, &count) in events.chain(FORMS.iter().zip(later)).chain(others) {
+        let no_moves = NO_MOVES.iter().zip(&self.no_moves);
+        let later = FORMS.iter().zip(later).chain(others);
+        for (name, &count) in events.chain(no_moves).chain(later) {
             if count == 0 {
                 missing.push(name.to_string());
             }
@@ -534,8 +679,12 @@ impl Statistics {
             }
         }
         for (word, row) in WORDS.iter().zip(&self.answers).skip(1) {
-            if row[0] == 0 {
-                missing.push(format!("accepted {}", String::from_utf8_lossy(word)));
+            // Accepted, and refused by the reader.
+            for answer in [0, 21, 23, 24, 28] {
+                if row[answer] == 0 {
+                    let word = String::from_utf8_lossy(word);
+                    missing.push(format!("{word} answered {answer}"));
+                }
             }
         }
         for kinds in exchange_kinds() {
@@ -609,12 +758,18 @@ impl fmt::Display for Statistics {
         }
         writeln!(f, "accepted steps, by what they did:")?;
         for (event, count) in EVENTS.iter().zip(self.events) {
-            writeln!(f, "  {event:<46}{count:>10}")?;
+            writeln!(f, "  {event:<48}{count:>10}")?;
         }
+        writeln!(f, "refused moves, by their cause:")?;
+        for (cause, count) in NO_MOVES.iter().zip(self.no_moves) {
+            writeln!(f, "  {cause:<48}{count:>10}")?;
+        }
+        let near = self.near_moves;
+        writeln!(f, "words with move in them, refused by 22: {near}")?;
         writeln!(f, "forms of later lines and of first lines:")?;
         let [first, later] = self.forms;
         for ((form, first), later) in FORMS.iter().zip(first).zip(later) {
-            writeln!(f, "  {form:<46}{later:>10}{first:>10}")?;
+            writeln!(f, "  {form:<48}{later:>10}{first:>10}")?;
         }
         let alone = self.padded_alone;
         writeln!(f, "padded lines of steps that would be accepted: {alone}")?;
@@ -635,7 +790,10 @@ impl fmt::Display for Statistics {
             f,
             "{exchanges} neighbouring lines that may be exchanged, in {scripts} scripts,"
         )?;
-        writeln!(f, "and those where the other step touches a send's v:")?;
+        writeln!(
+            f,
+            "and those where the other step touches a send's v or a move's p:"
+        )?;
         for (&kinds, (all, through_other)) in &self.exchanges {
             let [first, second] = kind_words(kinds);
             writeln!(f, "  {first:<10}{second:<10}{all:>10}{through_other:>10}")?;

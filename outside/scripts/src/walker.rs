@@ -23,13 +23,13 @@ enum Mood {
 
 impl Mood {
     /// How gladly each kind of step is taken, from send on.
-    fn weights(self) -> [usize; 6] {
+    fn weights(self) -> [usize; 7] {
         match self {
-            Mood::Spread => [8, 3, 6, 1, 2, 1],
-            Mood::Starve => [10, 9, 7, 0, 1, 1],
-            Mood::Fill => [9, 4, 1, 1, 1, 3],
-            Mood::Drain => [0, 0, 6, 6, 9, 6],
-            Mood::Even => [1, 1, 1, 1, 1, 1],
+            Mood::Spread => [8, 3, 6, 1, 2, 1, 1],
+            Mood::Starve => [10, 9, 7, 0, 1, 1, 1],
+            Mood::Fill => [9, 4, 1, 1, 1, 3, 1],
+            Mood::Drain => [0, 0, 6, 6, 9, 6, 1],
+            Mood::Even => [1, 1, 1, 1, 1, 1, 1],
         }
     }
 }
@@ -54,6 +54,8 @@ struct View {
     due: Vec<u16>,
     empty: Vec<u16>,
     filled: Vec<u16>,
+    /// Senders of returns that are under way.
+    returning: Vec<u16>,
 }
 
 impl View {
@@ -87,9 +89,13 @@ impl View {
             }
         }
         for s in 0..board.m {
-            match board.slots[usize::from(s)].kind {
+            let slot = &board.slots[usize::from(s)];
+            match slot.kind {
                 Kind::Empty => view.empty.push(s),
                 _ => view.filled.push(s),
+            }
+            if slot.kind == Kind::Return {
+                view.returning.push(slot.from);
             }
         }
         view
@@ -128,9 +134,8 @@ impl<'r> Walker<'r> {
         } else {
             Board::open(3, 1, &[0, 1]).0
         };
-        let depths = (0..board.n).filter_map(|unit| board.depth(unit).ok());
         Walker {
-            depths: depths.collect(),
+            depths: depths(&board),
             board,
             text: [first_line, b"\n"].concat(),
             mood: Mood::Spread,
@@ -209,6 +214,9 @@ impl<'r> Walker<'r> {
         self.text.push(b'\n');
         if let Ok(Record::Step(step)) = read_line(line, false) {
             self.board.step(step);
+            if step.kind == Step::MOVE {
+                self.depths = depths(&self.board);
+            }
         }
     }
 
@@ -241,12 +249,22 @@ impl<'r> Walker<'r> {
             self.change_mood();
         }
         self.mood_left -= 1;
+        let view = View::of(&self.board);
+        // A move is accepted on any board but that of a unit alone. Of two units only
+        // 1 can be moved, and it stays where it is: that is rare.
+        let moving = match self.board.n {
+            1 => false,
+            2 => self.random.chance(1, 10),
+            _ => self.random.chance(1, 2),
+        };
         if self.board.debt == 0 {
+            if moving && self.random.chance(1, 6) {
+                return self.accepted_move(&view);
+            }
             let at_root = self.random.chance(1, 2);
             return Step::start(if at_root { 0 } else { self.any_unit() });
         }
 
-        let view = View::of(&self.board);
         let room = !view.empty.is_empty();
         let possible = [
             room && !view.rich.is_empty(),
@@ -255,6 +273,7 @@ impl<'r> Walker<'r> {
             !view.ready.is_empty(),
             !view.counting.is_empty(),
             room && !view.due.is_empty(),
+            moving,
         ];
         let mut weights = self.mood.weights();
         // Who gets a large share is far from weight 1.
@@ -264,7 +283,7 @@ impl<'r> Walker<'r> {
         for (weight, possible) in weights.iter_mut().zip(possible) {
             *weight *= usize::from(possible);
         }
-        if weights == [0; 6] {
+        if weights == [0; 7] {
             weights = possible.map(usize::from);
         }
         let step = match Step::SEND + self.random.weighted(&weights) as u16 {
@@ -279,10 +298,32 @@ impl<'r> Walker<'r> {
             Step::DELIVER => Step::deliver(self.message(&view.filled)),
             Step::REST => Step::rest(self.random.pick(&view.ready)),
             Step::TICK => Step::tick(self.waiter(&view.counting)),
-            _ => Step::release(self.waiter(&view.due), self.random.pick(&view.empty)),
+            Step::RELEASE => Step::release(self.waiter(&view.due), self.random.pick(&view.empty)),
+            _ => self.accepted_move(&view),
         };
         debug_assert_eq!(self.board.clone().step(step), 0, "{step:?}");
         step
+    }
+
+    /// A move that is accepted, now and then of a unit whose return is under way or
+    /// that is suspended, and now and then under the parent that it already has.
+    fn accepted_move(&mut self, view: &View) -> Step {
+        let group = self.random.pick(&[&view.returning, &view.suspended]);
+        let unit = if !group.is_empty() && self.random.chance(1, 3) {
+            // Unit 0 may be suspended, but is not moved.
+            self.random.pick(group).max(1)
+        } else {
+            // Unit 1 has but one parent to be under.
+            let last = usize::from(self.board.n) - 1;
+            let least = if self.random.chance(1, 8) { 1 } else { 2 };
+            self.random.within(last.min(least), last) as u16
+        };
+        let parent = if self.random.chance(1, 6) {
+            self.board.parents[usize::from(unit)]
+        } else {
+            self.random.below(usize::from(unit)) as u16
+        };
+        Step::move_under(unit, parent)
     }
 
     /// The sender among the rich units, mostly a lean one: large shares soon
@@ -363,7 +404,7 @@ impl<'r> Walker<'r> {
     fn aimed_step(&mut self) -> Option<Step> {
         let view = View::of(&self.board);
         let random = &mut *self.random;
-        let form = random.below(7);
+        let form = random.below(8);
         let mut pick = |from: &[u16]| (!from.is_empty()).then(|| random.pick(from));
         let (n, m) = (self.board.n, self.board.m);
         let any_unit = pick(&(0..n).collect::<Vec<_>>())?;
@@ -371,7 +412,7 @@ impl<'r> Walker<'r> {
         // Empty or filled: the checks before the slot's come first.
         let empty_slot = pick(&view.empty).unwrap_or(any_slot);
         let slot = pick(&[empty_slot, any_slot])?;
-        let step = match pick(&(0..12).collect::<Vec<_>>())? {
+        let step = match pick(&(0..13).collect::<Vec<_>>())? {
             // 13
             0 => {
                 let unit = pick(&[n, n + 1, 64, 256, 65_535])?;
@@ -382,7 +423,9 @@ impl<'r> Walker<'r> {
                     3 => Step::request(unit, slot),
                     4 => Step::rest(unit),
                     5 => Step::tick(unit),
-                    _ => Step::release(unit, slot),
+                    6 => Step::release(unit, slot),
+                    // The p is lower, or 47 would hold, too.
+                    _ => Step::move_under(unit, pick(&[any_unit, unit, 65_535])?),
                 }
             }
             // 14
@@ -432,6 +475,16 @@ impl<'r> Walker<'r> {
             10 => Step::release(pick(&view.counting)?, slot),
             // 41
             11 => Step::request(pick(&view.rich)?, slot),
+            // 47: unit 0, p the unit itself, p above it, p not on the board
+            12 => match form {
+                0 | 1 => Step::move_under(0, pick(&[any_unit, 0, n])?),
+                2 | 3 => Step::move_under(any_unit, any_unit),
+                4 | 5 => {
+                    let above = (any_unit + 1..n).collect::<Vec<_>>();
+                    Step::move_under(any_unit, pick(&above)?)
+                }
+                _ => Step::move_under(any_unit, pick(&[n, n + 1, 64, 256, 65_535])?),
+            },
             _ => return None,
         };
         Some(step)
@@ -444,7 +497,7 @@ impl<'r> Walker<'r> {
         let n = usize::from(self.board.n);
         let m = usize::from(self.board.m);
         Step {
-            kind: random.within(1, 7) as u16,
+            kind: random.within(1, 8) as u16,
             unit: random.within(0, n) as u16,
             other: random.within(0, n) as u16,
             slot: random.within(0, m) as u16,
@@ -452,10 +505,20 @@ impl<'r> Walker<'r> {
     }
 }
 
+/// The depths of all units. A parent comes before its units.
+fn depths(board: &Board) -> Vec<u16> {
+    let mut depths: Vec<u16> = vec![0];
+    for unit in 1..usize::from(board.n) {
+        depths.push(depths[usize::from(board.parents[unit])] + 1);
+    }
+    depths
+}
+
 /// The fields of a step's line, the word first.
 pub fn fields(step: Step) -> Vec<Vec<u8>> {
     let numbers = match step.kind {
         Step::SEND => vec![step.unit, step.other, step.slot],
+        Step::MOVE => vec![step.unit, step.other],
         Step::REQUEST | Step::RELEASE => vec![step.unit, step.slot],
         Step::DELIVER => vec![step.slot],
         _ => vec![step.unit],

@@ -56,6 +56,17 @@ fn check(list: &EventList, met: &mut Met) {
                     Step::DELIVER if message.kind == Kind::Work => {
                         processed[usize::from(message.to)] += 1;
                     }
+                    // A move changes the parent and nothing else, counts and rounds
+                    // least of all (M-108).
+                    Step::MOVE => {
+                        let mut expected = before.clone();
+                        expected.parents[unit] = step.other;
+                        assert_eq!(board, expected);
+                        let visited = before.rounds.visited[unit];
+                        meet(format!("move, round {:?}", before.rounds.open));
+                        meet(format!("move, unit visited: {visited}"));
+                        meet(format!("move, unit {:?}", before.units[unit].state));
+                    }
                     _ => (),
                 }
                 if step.kind == Step::START {
@@ -118,11 +129,19 @@ fn verdicts_of_every_list() {
         ("begin, round One", 500),
         ("begin, round Two", 200),
         ("request", 200),
+        ("move, round None", 5_000),
+        ("move, round One", 5_000),
+        ("move, round Two", 1_000),
+        ("move, unit visited: true", 1_000),
+        ("move, unit Idle", 5_000),
+        ("move, unit Active", 1_000),
+        ("move, unit Waiting", 1_000),
         ("13", 1_000),
         ("37", 1_000),
         ("42", 1_000),
         ("42 suspended", 10),
         ("43", 1_000),
+        ("47", 500),
     ] {
         let count = met.get(what).copied().unwrap_or_default();
         assert!(count >= least, "{what}: {count}");

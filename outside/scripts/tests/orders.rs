@@ -15,7 +15,7 @@ struct Reading {
     unit: bool,
     slot: bool,
     receiver: bool,
-    /// A send's v.
+    /// A send's v and a move's p.
     other: bool,
     debt: bool,
 }
@@ -43,7 +43,7 @@ impl Reading {
         if self.unit && step.kind != Step::DELIVER {
             touched |= unit(step.unit);
         }
-        if self.other && step.kind == Step::SEND {
+        if self.other && has_other(step) {
             touched |= unit(step.other);
         }
         touched
@@ -61,16 +61,32 @@ impl Reading {
     }
 }
 
+/// Whether a step names a unit besides its own.
+fn has_other(step: Step) -> bool {
+    step.kind == Step::SEND || step.kind == Step::MOVE
+}
+
+/// Every step with units and slots of the board: those of a census, and moves.
+fn steps(board: &Board) -> Vec<Step> {
+    let mut steps = choices(board.n, board.m);
+    for unit in 0..board.n {
+        steps.extend((0..board.n).map(|parent| Step::move_under(unit, parent)));
+    }
+    steps
+}
+
 /// What a search has met.
 #[derive(Default)]
 struct Met {
     /// Pairs in an order in which they are as the reading asks.
     pairs: u64,
     /// The same by their kinds, the lower first.
-    kinds: [[u64; 8]; 8],
-    /// Those in which a send's v is a unit that the other step touches.
+    kinds: [[u64; 9]; 9],
+    /// Those in which a send's v or a move's p is a unit that the other step touches.
     through_other: u64,
-    /// Other pairs of sends that have the same v.
+    /// Those of them in which it is a move's p.
+    through_parent: u64,
+    /// Other pairs of sends and moves that have the same v or p.
     same_other: u64,
     /// Pairs that are not so in the other order: refused there, or the debt
     /// changes.
@@ -83,27 +99,35 @@ struct Met {
 fn search(reading: Reading, boards: &[Board]) -> Met {
     let mut met = Met::default();
     for board in boards {
-        let choices = choices(board.n, board.m);
+        let steps = steps(board);
         let touched = |step| reading.touched(board, step);
-        for &first in &choices {
+        for &first in &steps {
             // Most steps are refused, and no pair begins with them.
-            if board.clone().step(first) != 0 {
+            let mut between = board.clone();
+            if between.step(first) != 0 || reading.debt && between.debt != board.debt {
                 continue;
             }
-            for &second in &choices {
-                if touched(first) & touched(second) != 0 {
+            let mut after = between.clone();
+            for &second in &steps {
+                // A refused step leaves the copy for the next one.
+                if touched(first) & touched(second) != 0 || after.step(second) != 0 {
                     continue;
                 }
-                let Some(after) = reading.after(board, first, second) else {
+                let after = std::mem::replace(&mut after, between.clone());
+                if reading.debt && after.debt != board.debt {
                     continue;
-                };
+                }
                 let (low, high) = (first.kind.min(second.kind), first.kind.max(second.kind));
                 met.pairs += 1;
                 met.kinds[usize::from(low)][usize::from(high)] += 1;
-                let sends = (first.kind, second.kind) == (Step::SEND, Step::SEND);
+                let under = |one: Step, other| {
+                    one.kind == Step::MOVE && touched(other) >> one.other & 1 == 1
+                };
+                let through_parent = under(first, second) || under(second, first);
+                met.through_parent += u64::from(through_parent);
                 if through_other(board, first, second) {
                     met.through_other += 1;
-                } else if sends && first.other == second.other {
+                } else if has_other(first) && has_other(second) && first.other == second.other {
                     met.same_other += 1;
                 }
                 match reading.after(board, second, first) {
@@ -161,7 +185,13 @@ fn sound_board(random: &mut Random) -> Board {
         let unit = &mut board.units[u];
         let (kind, from, to, weight) = match random.below(6) {
             0 => (Kind::Work, u as u16, v, weight(random)),
-            1 if u > 0 => (Kind::Return, u as u16, parents[u - 1], weight(random)),
+            // To any lower unit, as if its sender was moved since (M-108).
+            1 if u > 0 => (
+                Kind::Return,
+                u as u16,
+                random.below(u) as u16,
+                weight(random),
+            ),
             2 if unit.state == State::Active && !unit.suspended => {
                 unit.suspended = true;
                 random.pick(&[
@@ -215,7 +245,8 @@ fn show(met: &Met) {
         row.iter().skip(1).for_each(|count| print!("{count:>9}"));
         println!();
     }
-    println!("through a send's v: {}", met.through_other);
+    println!("through a send's v or a move's p: {}", met.through_other);
+    println!("through a move's p: {}", met.through_parent);
 }
 
 /// Where two steps are as asked in one order, they are in the other, and the
@@ -225,8 +256,8 @@ fn claim_holds(boards: &[Board], least: u64, least_of_kinds: u64, least_through_
     show(&met);
     assert_eq!((met.not_so, met.differ), (0, 0));
     assert!(met.pairs >= least, "{}", met.pairs);
-    for low in 1..=7 {
-        for high in low..=7 {
+    for low in 1..=8 {
+        for high in low..=8 {
             let count = met.kinds[low][high];
             // A start is accepted on a debt of 0 alone and makes it 2^24, so that
             // no pair has one. Any two other kinds may come in either order.
@@ -237,8 +268,8 @@ fn claim_holds(boards: &[Board], least: u64, least_of_kinds: u64, least_through_
             }
         }
     }
-    // With v touched the claim would be smaller by these, and by two sends to one
-    // unit.
+    // With v and p touched the claim would be smaller by these, and by two sends or
+    // moves to one unit.
     let touching_v = Reading {
         other: true,
         ..CLAIMED
@@ -247,6 +278,7 @@ fn claim_holds(boards: &[Board], least: u64, least_of_kinds: u64, least_through_
     let fewer = met.pairs - smaller.pairs;
     assert_eq!(fewer, met.through_other + met.same_other);
     assert!(met.through_other >= least_through_other);
+    assert!(met.through_parent >= least_through_other / 2);
 }
 
 #[test]
@@ -263,9 +295,9 @@ fn either_order_on_sound_boards() {
 #[test]
 fn reference_reads_the_same() {
     for board in walked(10).iter().chain(&sound_boards(200)) {
-        let choices = choices(board.n, board.m);
-        for &first in &choices {
-            for &second in &choices {
+        let steps = steps(board);
+        for &first in &steps {
+            for &second in &steps {
                 let touched = |step| CLAIMED.touched(board, step);
                 let apart = touched(first) & touched(second) == 0;
                 let expected = apart && CLAIMED.after(board, first, second).is_some();
@@ -313,6 +345,28 @@ fn exchanges_of_a_script() {
     let expected = b"board\t4\t0\t0\t0\nstart\t0\nsend\t0\t1\t0\ndeliver\t0\nsend\t0\t2\t1\n\
         deliver\t1\nsend\t1\t2\t0\nrest\t1\ntick\t1\nrest\t0\nrest\t2";
     assert_eq!(after, expected);
+}
+
+/// Moves (M-108). Lines 3 and 4 are refused, 5 and 6 have the same unit, and line 8
+/// delivers to the unit that 7 moves.
+#[test]
+fn exchanged_moves() {
+    let script = b"board\t2\t0\t0\t1\t2\nstart\t3\nrest\t3\nmove\t0\t0\nmove\t4\t0\n\
+        move\t3\t2\nrelease\t3\t0\nmove\t2\t0\ndeliver\t0\nmove\t3\t0\nmove\t2\t1\n";
+    let found = exchanges(script);
+    let lines: Vec<(usize, bool)> = found
+        .iter()
+        .map(|met| (met.line, met.through_other))
+        .collect();
+    assert_eq!(lines, [(6, false), (8, false), (9, false)]);
+    let after = exchanged(script, 6);
+    let expected = b"board\t2\t0\t0\t1\t2\nstart\t3\nrest\t3\nmove\t0\t0\nmove\t4\t0\n\
+        move\t3\t2\nmove\t2\t0\nrelease\t3\t0\ndeliver\t0\nmove\t3\t0\nmove\t2\t1\n";
+    assert_eq!(after, expected);
+    // The p of line 1 is the unit of line 2.
+    let script = b"board\t1\t0\t0\t0\nmove\t2\t1\nmove\t1\t0\n";
+    let found = exchanges(script);
+    assert_eq!((found.len(), found[0].through_other), (1, true));
 }
 
 /// The last line lacks its byte 10, and so does the one that comes there.

@@ -8,7 +8,7 @@ use Rattle.rules.specs.Words.{isEmpty, grant, ceiling}
 use Rattle.rules.specs.Sheets.Sheet.{parentAt, unitAt, slotAt, Sheet, Outcome}
 use Rattle.rules.specs.Sheets.Sound.{Sound, sound}
 use Rattle.rules.specs.Actions.{actionOf}
-use Rattle.rules.specs.Letters.{Place, amongUnits, amongSlots, Letter, letters, read, placeCheck, checksOf, placeChecks, slotOf}
+use Rattle.rules.specs.Letters.{Limit, unitsInUse, slotsInUse, ownUnit, Letter, letters, read, placeCheck, checksOf, placeChecks, slotOf}
 use Rattle.rules.specs.Sheets.Steps.{unitOf, madeAt, placesOn, checksOn, doneOn, effectBy, effect, applied, soundStep, step}
 use Rattle.rules.specs.Effects.{grantFits, recordChecks, recordRule}
 use Rattle.rules.proofs.JudgeLaws.{Numbered, Judged, passed, failed, judged, first-passed}
@@ -17,7 +17,7 @@ use Rattle.rules.proofs.Sheets.SoundLaws.{sound-claims, sound-tested}
 use Rattle.rules.specs.declared.Kind.{Kind}
 use Rattle.rules.specs.declared.Kind.the-variants.{Empty, Work, Return, Request, Supply}
 use Rattle.rules.specs.declared.Action.{Action}
-use Rattle.rules.specs.declared.Action.the-variants.{Unknown, Start, Send, Request as RequestStep, Deliver, Rest, Tick, Release}
+use Rattle.rules.specs.declared.Action.the-variants.{Unknown, Start, Send, Request as RequestStep, Deliver, Rest, Tick, Release, Move}
 use Rattle.rules.specs.declared.Effect.{Effect}
 use Rattle.rules.specs.declared.Effect.the-variants.{Refused}
 use Rattle.rules.specs.declared.UnitRecord.{UnitRecord}
@@ -28,13 +28,14 @@ use Rattle.rules.specs.declared.StepRecord.{StepRecord}
 pub place-numbered : (n m : ℕ) (r : StepRecord) (a : Action) → Numbered (placeChecks n m r a)
 place-numbered n m r a = of-letters (letters a)
   where
-    of-place : (i : ℕ) (p : Place) (cs : List Check) → Numbered cs → Numbered (placeCheck n m i p ++ cs)
-    of-place i amongUnits cs h = (omega arith, h)
-    of-place i amongSlots cs h = (omega arith, h)
+    of-limit : (i : ℕ) (x : Limit) (cs : List Check) → Numbered cs → Numbered (placeCheck n m (r .unit) i x ++ cs)
+    of-limit i unitsInUse cs h = (omega arith, h)
+    of-limit i slotsInUse cs h = (omega arith, h)
+    of-limit i ownUnit cs h = (omega arith, h)
 
     of-letters : (ls : List Letter) → Numbered (checksOf n m r ls)
     of-letters [] = tt
-    of-letters (l ∷ ls) = of-place (read r (l .field)) (l .place) (checksOf n m r ls) (of-letters ls)
+    of-letters (l ∷ ls) = of-limit (read r (l .field)) (l .limit) (checksOf n m r ls) (of-letters ls)
 
 grant-numbered : (debt : ℕ) (k : Kind) → Numbered (grantFits debt k)
 grant-numbered debt Empty = tt
@@ -52,6 +53,7 @@ record-numbered debt x y made Deliver = (omega arith, grant-numbered debt (y .ki
 record-numbered debt x y made Rest = omega arith
 record-numbered debt x y made Tick = omega arith
 record-numbered debt x y made Release = omega arith
+record-numbered debt x y made Move = tt
 
 -- ---- what an accepted step tells, by its action
 pub record AcceptedAs (b : Sheet) (r : StepRecord) (a : Action) : Type 0 where

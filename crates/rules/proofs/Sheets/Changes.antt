@@ -1,4 +1,4 @@
--- One law for every step: a change of one unit with its counts, one slot and the debt that fits keeps a sound sheet sound.
+-- One law for every step: a change of one unit with its parent and its counts, one slot and the debt that fits keeps a sound sheet sound.
 use mathlib.Core.Path.{_≡_, refl, sym, subst, _∙_}
 use mathlib.Core.List.{List}
 use Prim.Native.Nat.{ℕ, _+_, _≤_, _<_}
@@ -8,17 +8,17 @@ use lib.ListN.{length, getD, set, length-set}
 use lib.Seq.{getD-set-same, getD-set-other, set-getD}
 use Rattle.rules.specs.Facts.{Claims, Each, oneIf, Check, judge}
 use Rattle.rules.specs.Words.{isWork, blankUnit, blankSlot, ceiling, full}
-use Rattle.rules.specs.Sheets.Sheet.{Sheet, unitAt, slotAt, countsAt, Outcome}
-use Rattle.rules.specs.Sheets.Sound.{stateRow, pendingRow, pendingIn, pending, unitsWeight, slotsWeight, createdRow, processedRow, total, workUnderWay, Sound, slotRowOn, kindRowOn, unitRowOn}
+use Rattle.rules.specs.Sheets.Sheet.{Sheet, parentAt, unitAt, slotAt, countsAt, Outcome}
+use Rattle.rules.specs.Sheets.Sound.{parentRow, lowerParent, stateRow, pendingRow, pendingIn, pending, unitsWeight, slotsWeight, createdRow, processedRow, total, workUnderWay, Sound, slotRowOn, kindRowOn, unitRowOn}
 use Rattle.rules.specs.Effects.{counted}
 use Rattle.rules.specs.Sheets.Steps.{changed, applied}
 use Rattle.rules.proofs.FactLaws.{each-of, each-set}
 use Rattle.rules.proofs.JudgeLaws.{judge-map}
 use Rattle.rules.proofs.SumLaws.{sum-set}
-use Rattle.rules.proofs.Sheets.SoundLaws.{row-of, unit-row, slot-row, pending-row}
+use Rattle.rules.proofs.Sheets.SoundLaws.{row-of, parent-row, unit-row, slot-row, pending-row}
 use Rattle.rules.specs.declared.Action.{Action}
 use Rattle.rules.specs.declared.Effect.{Effect}
-use Rattle.rules.specs.declared.Effect.the-variants.{Refused, OnUnit, OnSlot, OnBoth}
+use Rattle.rules.specs.declared.Effect.the-variants.{Refused, OnUnit, OnSlot, OnBoth, OnParent}
 use Rattle.rules.specs.declared.UnitRecord.{UnitRecord}
 use Rattle.rules.specs.declared.Slot.{Slot}
 use Rattle.rules.specs.declared.Counts.{Counts}
@@ -43,9 +43,9 @@ pub record CountsFit (b : Sheet) (u s : ℕ) (y : Slot) (k : Counts) : Type 0 wh
   pub most : k .created ≤ full
   pub balanced : k .created + (countsAt b u .processed + workIn (slotAt b s)) ≡ countsAt b u .created + (k .processed + workIn y)
 
-module _ (b : Sheet) (h : Sound b) (u s : ℕ) (x : UnitRecord) (y : Slot) (debt : ℕ) (k : Counts) (f : Fits b u s x y debt) (g : CountsFit b u s y k) where
+module _ (b : Sheet) (h : Sound b) (u s : ℕ) (x : UnitRecord) (p : ℕ) (y : Slot) (debt : ℕ) (k : Counts) (f : Fits b u s x y debt) (low : Claims (lowerParent u p)) (g : CountsFit b u s y k) where
   abbrev new : Sheet
-  new = changed b (set (b .units) u x) (set (b .slots) s y) debt (set (b .created) u (k .created)) (set (b .processed) u (k .processed))
+  new = changed b (set (b .parents) u p) (set (b .units) u x) (set (b .slots) s y) debt (set (b .created) u (k .created)) (set (b .processed) u (k .processed))
 
   new-units : Each (unitRowOn b) (set (b .units) u x)
   new-units = each-set (unitRowOn b) (b .units) u x (row-of u (b .n) _ _ (λ l. f .unit-fits) (λ l. absurd (omega arith))) (h .s2-units)
@@ -91,8 +91,8 @@ module _ (b : Sheet) (h : Sound b) (u s : ℕ) (x : UnitRecord) (y : Slot) (debt
 
   pub change-sound : Sound new
   change-sound = record {
-    s1-sizes = omega (arith, length-set (b .units) u x, length-set (b .slots) s y, length-set (b .created) u (k .created), length-set (b .processed) u (k .processed));
-    s1-parents = h .s1-parents;
+    s1-sizes = omega (arith, length-set (b .parents) u p, length-set (b .units) u x, length-set (b .slots) s y, length-set (b .created) u (k .created), length-set (b .processed) u (k .processed));
+    s1-parents = each-set (parentRow (b .n)) (b .parents) u p (row-of u (b .n) _ _ (λ l. low) (λ l. absurd (omega (arith, f .unit-used, l)))) (h .s1-parents);
     s2-units = new-units;
     s3-slots = new-slots;
     s4-pending = each-of (pendingRow new) (set (b .units) u x) blankUnit (λ i l. (new-pending i l, tt));
@@ -129,10 +129,14 @@ slot-change b h u s y debt k l c e w q = record {
   debt-fits = q;
 }
 
+-- ---- a change of neither: what is left to a move
+all-kept : (b : Sheet) → Sound b → (u s : ℕ) → u < b .n → s < b .m → Fits b u s (unitAt b u) (slotAt b s) (b .debt)
+all-kept b h u s l k = unit-change b h u s (unitAt b u) (b .debt) l k (unit-row b h u l) refl refl (h .s5-s6-debt .1 .0)
+
 -- ---- an effect: a refused one leaves the board as it was; one that fits keeps it sound
 pub refused-applied : (b : Sheet) (a : Action) (u s k : ℕ) → applied b a u s (Refused k) ≡ record { answer = k; sheet = b }
 unfolding applied
-refused-applied b a u s k = rw (set-getD (b .units) u blankUnit, set-getD (b .slots) s blankSlot, set-getD (b .created) u 0, set-getD (b .processed) u 0)
+refused-applied b a u s k = rw (set-getD (b .parents) u 0, set-getD (b .units) u blankUnit, set-getD (b .slots) s blankSlot, set-getD (b .created) u 0, set-getD (b .processed) u 0)
 
 -- so a judged effect, applied anywhere, is the applied effect judged: its refusals leave the board
 pub judged-applied : (b : Sheet) (a : Action) (u s : ℕ) (cs : List Check) (e : Effect) → applied b a u s (judge Refused cs e) ≡ judge (λ k. record { answer = k; sheet = b }) cs (applied b a u s e)
@@ -143,6 +147,7 @@ FitsEffect b u s (Refused k) = Unit {0}
 FitsEffect b u s (OnUnit x debt) = Fits b u s x (slotAt b s) debt
 FitsEffect b u s (OnSlot y debt) = Fits b u s (unitAt b u) y debt
 FitsEffect b u s (OnBoth x y debt) = Fits b u s x y debt
+FitsEffect b u s (OnParent p) = (u < b .n) × (s < b .m) × Claims (lowerParent u p)
 
 -- the counts that an accepted step of the action leaves
 abbrev pub CountsFitEffect : Sheet → Action → ℕ → ℕ → Effect → Type 0
@@ -150,10 +155,12 @@ CountsFitEffect b a u s (Refused k) = Unit {0}
 CountsFitEffect b a u s (OnUnit x debt) = CountsFit b u s (slotAt b s) (counted (countsAt b u) (slotAt b s) a)
 CountsFitEffect b a u s (OnSlot y debt) = CountsFit b u s y (counted (countsAt b u) (slotAt b s) a)
 CountsFitEffect b a u s (OnBoth x y debt) = CountsFit b u s y (counted (countsAt b u) (slotAt b s) a)
+CountsFitEffect b a u s (OnParent p) = CountsFit b u s (slotAt b s) (counted (countsAt b u) (slotAt b s) a)
 
 pub effect-sound : (b : Sheet) → Sound b → (a : Action) (u s : ℕ) (e : Effect) → FitsEffect b u s e → CountsFitEffect b a u s e → Sound (applied b a u s e .sheet)
 unfolding applied
 effect-sound b h a u s (Refused k) f g = subst (λ (o : Outcome). Sound (o .sheet)) (sym (refused-applied b a u s k)) h
-effect-sound b h a u s (OnUnit x debt) f g = change-sound b h u s x (slotAt b s) debt _ f g
-effect-sound b h a u s (OnSlot y debt) f g = change-sound b h u s (unitAt b u) y debt _ f g
-effect-sound b h a u s (OnBoth x y debt) f g = change-sound b h u s x y debt _ f g
+effect-sound b h a u s (OnUnit x debt) f g = change-sound b h u s x (parentAt b u) (slotAt b s) debt _ f (parent-row b h u (f .unit-used)) g
+effect-sound b h a u s (OnSlot y debt) f g = change-sound b h u s (unitAt b u) (parentAt b u) y debt _ f (parent-row b h u (f .unit-used)) g
+effect-sound b h a u s (OnBoth x y debt) f g = change-sound b h u s x (parentAt b u) y debt _ f (parent-row b h u (f .unit-used)) g
+effect-sound b h a u s (OnParent p) f g = change-sound b h u s (unitAt b u) p (slotAt b s) (b .debt) _ (all-kept b h u s (f .0) (f .1)) (f .2) g

@@ -17,7 +17,7 @@ use Rattle.rules.proofs.Sheets.Changes.{CountsFit, CountsFitEffect}
 use Rattle.rules.specs.declared.Kind.{Kind}
 use Rattle.rules.specs.declared.Kind.the-variants.{Empty, Work, Return, Request, Supply}
 use Rattle.rules.specs.declared.Action.{Action}
-use Rattle.rules.specs.declared.Action.the-variants.{Unknown, Start, Send, Request as RequestStep, Deliver, Rest, Tick, Release}
+use Rattle.rules.specs.declared.Action.the-variants.{Unknown, Start, Send, Request as RequestStep, Deliver, Rest, Tick, Release, Move}
 use Rattle.rules.specs.declared.Slot.{Slot}
 use Rattle.rules.specs.declared.StepRecord.{StepRecord}
 
@@ -63,3 +63,4 @@ module _ (b : Sheet) (r : StepRecord) (h : Sound b) where
       resting = counts-fit Rest (r .unit) 0 (slotAt b 0) (nothing-made Rest (r .unit) refl) refl
   step-counts Tick c = counts-fit Tick (r .unit) 0 _ (nothing-made Tick (r .unit) refl) refl
   step-counts Release c = filled Release _ (shown 34 c) (nothing-made Release (r .unit) refl) refl
+  step-counts Move c = counts-fit Move (r .unit) 0 _ (nothing-made Move (r .unit) refl) refl

@@ -27,9 +27,9 @@ use Rattle.rules.specs.declared.State.the-variants.{Idle, Active, Waitin
 use Rattle.rules.specs.declared.Kind.{Kind}
 use Rattle.rules.specs.declared.Kind.the-variants.{Empty, Work, Return, Request, Supply}
 use Rattle.rules.specs.declared.Action.{Action}
-use Rattle.rules.specs.declared.Action.the-variants.{Unknown, Start, Send, Request as RequestStep, Deliver, Rest, Tick, Release}
+use Rattle.rules.specs.declared.Action.the-variants.{Unknown, Start, Send, Request as RequestStep, Deliver, Rest, Tick, Release, Move}
 use Rattle.rules.specs.declared.Effect.{Effect}
-use Rattle.rules.specs.declared.Effect.the-variants.{Refused, OnUnit, OnSlot, OnBoth}
+use Rattle.rules.specs.declared.Effect.the-variants.{Refused, OnUnit, OnSlot, OnBoth, OnParent}
 use Rattle.rules.specs.declared.UnitRecord.{UnitRecord}
 use Rattle.rules.specs.declared.Slot.{Slot}
 use Rattle.rules.specs.declared.StepRecord.{StepRecord}
@@ -44,6 +44,7 @@ module _ (b : Sheet) (r : StepRecord) (h : Sound b) where
   unit-in-use Rest c = shown 13 c
   unit-in-use Tick c = shown 13 c
   unit-in-use Release c = shown 13 c
+  unit-in-use Move c = shown 13 c
 
   -- ---- an accepted step's effect is no refusal
   abbrev Lands : Effect → Type 0
@@ -51,6 +52,7 @@ module _ (b : Sheet) (r : StepRecord) (h : Sound b) where
   Lands (OnUnit x debt) = Unit {0}
   Lands (OnSlot y debt) = Unit {0}
   Lands (OnBoth x y debt) = Unit {0}
+  Lands (OnParent p) = Unit {0}
 
   deliver-lands : (x : UnitRecord) (y : Slot) (k : Kind) → isEmpty k ≡ false → Lands (deliverEffect (b .debt) (b .delay) x y k)
   deliver-lands x y Empty e = absurd (true-not-false e)
@@ -68,6 +70,7 @@ module _ (b : Sheet) (r : StepRecord) (h : Sound b) where
   lands Rest c = root-or-other (λ z w. Lands z) (r .unit) 0 _ _ (λ q. tt) (λ l. tt)
   lands Tick c = tt
   lands Release c = tt
+  lands Move c = tt
 
   -- the unit that an effect leaves in place of x
   abbrev unitLeft : Effect → UnitRecord → UnitRecord
@@ -75,6 +78,7 @@ module _ (b : Sheet) (r : StepRecord) (h : Sound b) where
   unitLeft (OnUnit z debt) x = z
   unitLeft (OnSlot y debt) x = x
   unitLeft (OnBoth z y debt) x = z
+  unitLeft (OnParent p) x = x
 
   -- what the effect stores
   pub record Stores (a : Action) (u s : ℕ) (e : Effect) : Type 0 where
@@ -89,6 +93,7 @@ module _ (b : Sheet) (r : StepRecord) (h : Sound b) where
   stores a u s (OnUnit x debt) l = record { same-n = refl; units = refl; created = refl; processed = refl }
   stores a u s (OnSlot y debt) l = record { same-n = refl; units = refl; created = refl; processed = refl }
   stores a u s (OnBoth x y debt) l = record { same-n = refl; units = refl; created = refl; processed = refl }
+  stores a u s (OnParent p) l = record { same-n = refl; units = refl; created = refl; processed = refl }
 
   -- ---- who becomes active
   -- where x was not active and is then, so much work is processed
@@ -133,6 +138,7 @@ module _ (b : Sheet) (r : StepRecord) (h : Sound b) where
   wakes Rest c n = λ p q. never (unitAt b (r .unit)) (shown 31 c) p
   wakes Tick c n = λ p q. never (unitAt b (r .unit)) q p
   wakes Release c n = λ p q. absurd (true-not-false (sym q))
+  wakes Move c n = λ p q. never (unitAt b (r .unit)) q p
 
   -- ---- who creates
   makes : (a : Action) → AcceptedAs b r a → startBy a ≡ 0 → isActive (unitAt b (unitOf b r a) .state) ≡ false → createdBy a ≡ 0
@@ -144,9 +150,10 @@ module _ (b : Sheet) (r : StepRecord) (h : Sound b) where
   makes Rest c n p = refl
   makes Tick c n p = refl
   makes Release c n p = refl
+  makes Move c n p = refl
 
 -- ---- the sheet d that an accepted step which is no start left of b
-pub record Moves (b d : Sheet) : Type 0 where
+pub record Advances (b d : Sheet) : Type 0 where
   pub same-units : d .n ≡ b .n
   pub created-grows : (i : ℕ) → getD (b .created) i 0 ≤ getD (d .created) i 0
   pub processed-grows : (i : ℕ) → getD (b .processed) i 0 ≤ getD (d .processed) i 0
@@ -197,8 +204,8 @@ module _ (b : Sheet) (r : StepRecord) (h : Sound b) (a : Action) (c : AcceptedAs
       set-at (λ j x. isActive (unitAt b j .state) ≡ false → x ≡ getD (b .created) j 0) (b .created) u (countsAt b u .created + createdBy a) 0 (omega (arith, within, h .s1-sizes))
       (λ p. omega (arith, makes b r h a c n p)) (λ j p. refl)
 
-  left-moves : Moves b left
-  left-moves = record {
+  left-advances : Advances b left
+  left-advances = record {
     same-units = stored .same-n;
     created-grows = λ i. rw (stored .created) (grows (b .created) u (createdBy a) (omega (arith, within, h .s1-sizes)) i);
     processed-grows = λ i. rw (stored .processed) (grows (b .processed) u (processedBy (slotAt b s) a) (omega (arith, within, h .s1-sizes)) i);
@@ -206,7 +213,7 @@ module _ (b : Sheet) (r : StepRecord) (h : Sound b) (a : Action) (c : AcceptedAs
     by-active = λ i p. rw (stored .created) (made-at i p);
   }
 
-pub step-moves : (b : Sheet) (r : StepRecord) → Sound b → step b r .answer ≡ 0 → startCount b r ≡ 0 → Moves b (step b r .sheet)
-step-moves b r h z n =
+pub step-advances : (b : Sheet) (r : StepRecord) → Sound b → step b r .answer ≡ 0 → startCount b r ≡ 0 → Advances b (step b r .sheet)
+step-advances b r h z n =
     let c = accepted-as b r h (actionOf (r .kind)) refl z in
-    subst (λ (o : Outcome). Moves b (o .sheet)) (sym (c .gives)) (left-moves b r h (actionOf (r .kind)) c n)
+    subst (λ (o : Outcome). Advances b (o .sheet)) (sym (c .gives)) (left-advances b r h (actionOf (r .kind)) c n)

@@ -1,4 +1,4 @@
--- Drains from a quiet board: each has at most so many steps as the bound says, fewer with returns under way, and until finished some
+-- Drains from a quiet board: each has at most so many steps as the bound says, fewer with units waiting, and until finished some
 -- step makes it one longer.
 use mathlib.Core.Path.{_≡_, refl, sym, ap, subst, _∙_}
 use mathlib.Core.Bool.{true}
@@ -15,7 +15,7 @@ use Rattle.rules.specs.Effects.{grantFits, returnEffect, deliverEffect}
 use Rattle.rules.specs.Sheets.Steps.{checksOn, applied, step}
 use Rattle.rules.specs.Events.{afterAll, DrainOf}
 use Rattle.rules.specs.Sheets.Lists.{after}
-use Rattle.rules.specs.Sheets.Drains.{Quiet, DrainStep, Drain, returns, waits, waitStep, wayStep, returnsUnderWay, drainBound}
+use Rattle.rules.specs.Sheets.Drains.{Quiet, DrainStep, Drain, returns, waits, waitStep, wayStep, waitingUnits, drainBound, shallowReturns}
 use Rattle.rules.specs.Guarantee.{Fits16, sheets, Longer, Drains}
 use Rattle.rules.proofs.FactLaws.{asked}
 use Rattle.rules.proofs.SumLaws.{PartAbove, sum-above}
@@ -124,12 +124,12 @@ quiet-drains b h q = record {
     above-zero : (k : ℕ) → (k ≡ 0 → ⊥) → 1 ≤ k
     above-zero k n = omega (arith, n)
 
-pub returns-count-less : (b : Sheet) → Sound b → Quiet b → (rs : List StepRecord) → Drain b rs
-    → (length rs + returnsUnderWay b * (b .delay + 1) ≤ drainBound b) × (1 ≤ returnsUnderWay b → length rs < drainBound b)
-returns-count-less b h q rs z = (less, λ k. omega (arith, less, mul-le-mul-left (returnsUnderWay b) one, k))
+pub below-bound : (b : Sheet) → Sound b → Quiet b → (rs : List StepRecord) → Drain b rs
+    → (length rs + (waitingUnits b + shallowReturns b * (b .delay + 2)) ≤ drainBound b) × (1 ≤ waitingUnits b + shallowReturns b → length rs < drainBound b)
+below-bound b h q rs z = (less, λ k. omega (arith, less, mul-le-mul-left (shallowReturns b) one, k))
   where
-    less : length rs + returnsUnderWay b * (b .delay + 1) ≤ drainBound b
+    less : length rs + (waitingUnits b + shallowReturns b * (b .delay + 2)) ≤ drainBound b
     less = omega (arith, drain-length b rs h q z, potential-less b h)
 
-    one : 1 ≤ b .delay + 1
+    one : 1 ≤ b .delay + 2
     one = omega arith

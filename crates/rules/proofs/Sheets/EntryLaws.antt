@@ -9,7 +9,7 @@ use Rattle.rules.specs.Words.{isIdle, isActive, isWaiting, isEmpty, blan
 use Rattle.rules.specs.Sheets.Sheet.{unitAt, slotAt, Sheet}
 use Rattle.rules.specs.Sheets.Sound.{stateRow, pendingIn, pending, Sound, kindRowOn}
 use Rattle.rules.proofs.SumLaws.{sum-part}
-use Rattle.rules.proofs.Sheets.SoundLaws.{parent-below, unit-row, slot-row, pending-row, weights-fit}
+use Rattle.rules.proofs.Sheets.SoundLaws.{unit-row, slot-row, pending-row, weights-fit}
 use Rattle.rules.specs.declared.State.{State}
 use Rattle.rules.specs.declared.State.the-variants.{Idle, Active, Waiting}
 use Rattle.rules.specs.declared.Kind.{Kind}
@@ -93,6 +93,6 @@ receiver-in-use b h j l = by-kind (slotAt b j .kind) (slot-row b h j l)
     by-kind : (k : Kind) → Claims (kindRowOn b (slotAt b j) k) → slotAt b j .to < b .n
     by-kind Empty p = omega (arith, h .s1-sizes, p)
     by-kind Work p = p .1 .0
-    by-kind Return p = omega (arith, p, parent-below b h (slotAt b j .from) (p .0) (p .1 .0))
+    by-kind Return p = omega (arith, p)
     by-kind Request p = omega (arith, h .s1-sizes, p)
     by-kind Supply p = p .1 .0

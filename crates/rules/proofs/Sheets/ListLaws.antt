@@ -21,9 +21,9 @@ use Rattle.rules.proofs.Sheets.StepFits.{accepted-keeps-sound}
 use Rattle.rules.specs.declared.Kind.{Kind}
 use Rattle.rules.specs.declared.Kind.the-variants.{Empty, Work, Return, Request, Supply}
 use Rattle.rules.specs.declared.Action.{Action}
-use Rattle.rules.specs.declared.Action.the-variants.{Unknown, Start, Send, Request as RequestStep, Deliver, Rest, Tick, Release}
+use Rattle.rules.specs.declared.Action.the-variants.{Unknown, Start, Send, Request as RequestStep, Deliver, Rest, Tick, Release, Move}
 use Rattle.rules.specs.declared.Effect.{Effect}
-use Rattle.rules.specs.declared.Effect.the-variants.{Refused, OnUnit, OnSlot, OnBoth}
+use Rattle.rules.specs.declared.Effect.the-variants.{Refused, OnUnit, OnSlot, OnBoth, OnParent}
 use Rattle.rules.specs.declared.Slot.{Slot}
 use Rattle.rules.specs.declared.StepRecord.{StepRecord}
 
@@ -34,6 +34,7 @@ applied-kept b a u s (Refused k) n = ap (λ (o : Outcome). o .sheet) (refused-ap
 applied-kept b a u s (OnUnit x debt) n = absurd (n refl)
 applied-kept b a u s (OnSlot y debt) n = absurd (n refl)
 applied-kept b a u s (OnBoth x y debt) n = absurd (n refl)
+applied-kept b a u s (OnParent p) n = absurd (n refl)
 
 pub refused-keeps : (b : Sheet) (r : StepRecord) → (step b r .answer ≡ 0 → ⊥) → step b r .sheet ≡ b
 unfolding step soundStep
@@ -86,6 +87,7 @@ module _ (b : Sheet) (r : StepRecord) (h : Sound b) where
   account-as Rest c = omega (arith, rest-account c)
   account-as Tick c = omega arith
   account-as Release c = omega arith
+  account-as Move c = omega arith
 
   step-account : step b r .answer ≡ 0 → step b r .sheet .debt + takenCount b r ≡ b .debt + grant * (startCount b r + grantCount b r)
   step-account e =

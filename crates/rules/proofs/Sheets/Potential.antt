@@ -1,13 +1,15 @@
--- The potential of a board: with no unit active and no work under way, each accepted step but a start lowers it by at least 1, and
+-- The potential of a board: with no unit active and no work under way, each accepted step but a start or a move lowers it by at least 1, and
 -- it is at most the bound on drains.
 use mathlib.Core.Path.{_≡_, refl, sym, ap, subst, _∙_}
-use mathlib.Core.Bool.{true, false}
+use mathlib.Core.Bool.{Bool, true, false, _&&_}
 use mathlib.Core.List.{List, [], _∷_}
 use Prim.Native.Nat.{ℕ, zero, suc, _+_, _*_, _≤_, _<_}
 use native.Mathlib.Nat.{add-mul, mul-suc, mul-le-mul-left}
 use native.Mathlib.Omega.{arith}
 use lib.ListN.{getD, set}
-use borrow.Author.Tests.{eq-eqb}
+use lib.Dec.{ltb}
+use lib.Seq.{set-getD}
+use borrow.Author.Tests.{eq-eqb, ltb-true}
 use Rattle.rules.specs.Facts.{sumOf, oneIf}
 use Rattle.rules.specs.Words.{isIdle, isEmpty, isActive, isWaiting, isWork, isReturn, blankUnit, blankSlot}
 use Rattle.rules.specs.Sheets.Sheet.{parentAt, unitAt, slotAt, Sheet, Outcome}
@@ -17,11 +19,11 @@ use Rattle.rules.specs.Actions.{actionOf}
 use Rattle.rules.specs.Letters.{slotOf}
 use Rattle.rules.specs.Effects.{message, waitingWith, returned, returnEffect, deliverEffect}
 use Rattle.rules.specs.Sheets.Steps.{unitOf, doneOn, changed, applied, step}
-use Rattle.rules.specs.Sheets.Lists.{startBy}
-use Rattle.rules.specs.Sheets.Drains.{Quiet, DrainStep, waitingUnits, returnsUnderWay, drainBound}
+use Rattle.rules.specs.Sheets.Lists.{undrainedBy}
+use Rattle.rules.specs.Sheets.Drains.{Quiet, DrainStep, waitingUnits, returnsUnderWay, drainBound, shallowReturns}
 use Rattle.rules.proofs.FactLaws.{true-not-false}
 use Rattle.rules.proofs.SumLaws.{sum-set, sum-bound, sum-plus}
-use Rattle.rules.proofs.Sheets.SoundLaws.{below-or-not, root-or-other, parent-below, unit-past, slot-past}
+use Rattle.rules.proofs.Sheets.SoundLaws.{below-or-not, root-or-other, unit-past, slot-past}
 use Rattle.rules.proofs.Sheets.Accepted.{AcceptedAs, shown, accepted-as}
 use Rattle.rules.proofs.Sheets.EntryLaws.{waiting-is, unit-row-as, slot-row-as, pending-as, suspended-active, pending-suspended}
 use Rattle.rules.proofs.Sheets.DepthLaws.{depth-at-most, deeper-than-parent}
@@ -30,7 +32,7 @@ use Rattle.rules.specs.declared.State.the-variants.{Idle, Active, Waitin
 use Rattle.rules.specs.declared.Kind.{Kind}
 use Rattle.rules.specs.declared.Kind.the-variants.{Empty, Work, Return, Request, Supply}
 use Rattle.rules.specs.declared.Action.{Action}
-use Rattle.rules.specs.declared.Action.the-variants.{Unknown, Start, Send, Request as RequestStep, Deliver, Rest, Tick, Release}
+use Rattle.rules.specs.declared.Action.the-variants.{Unknown, Start, Send, Request as RequestStep, Deliver, Rest, Tick, Release, Move}
 use Rattle.rules.specs.declared.Effect.{Effect}
 use Rattle.rules.specs.declared.UnitRecord.{UnitRecord}
 use Rattle.rules.specs.declared.Slot.{Slot}
@@ -78,10 +80,12 @@ module _ (b : Sheet) (h : Sound b) (q : Quiet b) where
   abbrev slotWorthOf : Slot → ℕ
   slotWorthOf y = slotWorth (b .delay) (b .parents) y (y .kind)
 
-  lower-both : (u s : ℕ) (x : UnitRecord) (y : Slot) (debt : ℕ) {cs ps : List ℕ} → u < b .n → s < b .m → isActive (x .state) ≡ false → isWork (y .kind) ≡ false
-      → worthOf u x + slotWorthOf y + 1 ≤ worthOf u (unitAt b u) + slotWorthOf (slotAt b s) → Lower b (changed b (set (b .units) u x) (set (b .slots) s y) debt cs ps)
+  -- the parent that stood there is stored again
+  lower-both : (u s : ℕ) (x : UnitRecord) (y : Slot) (debt : ℕ) {cs ds : List ℕ} → u < b .n → s < b .m → isActive (x .state) ≡ false → isWork (y .kind) ≡ false
+      → worthOf u x + slotWorthOf y + 1 ≤ worthOf u (unitAt b u) + slotWorthOf (slotAt b s)
+      → Lower b (changed b (set (b .parents) u (parentAt b u)) (set (b .units) u x) (set (b .slots) s y) debt cs ds)
   unfolding unitsWorth slotsWorth
-  lower-both u s x y debt l k a e w = record {
+  lower-both u s x y debt {cs} {ds} l k a e w = subst (λ (ps : List ℕ). Lower b (changed b ps (set (b .units) u x) (set (b .slots) s y) debt cs ds)) (sym (set-getD (b .parents) u 0)) (record {
     quiet = record {
       none-active = set-all (λ (z : UnitRecord). isActive (z .state) ≡ false) (b .units) u x blankUnit a (q .none-active);
       no-work = set-all (λ (z : Slot). isWork (z .kind) ≡ false) (b .slots) s y blankSlot e (q .no-work);
@@ -92,14 +96,14 @@ module _ (b : Sheet) (h : Sound b) (q : Quiet b) where
       sum-set (λ j z. slotWorthOf z) (b .slots) s y blankSlot (omega (arith, h .s1-sizes, k)),
       w,
     );
-  }
+  })
 
-  lower-unit : (u s : ℕ) (x : UnitRecord) (debt : ℕ) {cs ps : List ℕ} → u < b .n → s < b .m → isActive (x .state) ≡ false → worthOf u x + 1 ≤ worthOf u (unitAt b u)
-      → Lower b (changed b (set (b .units) u x) (set (b .slots) s (slotAt b s)) debt cs ps)
+  lower-unit : (u s : ℕ) (x : UnitRecord) (debt : ℕ) {cs ds : List ℕ} → u < b .n → s < b .m → isActive (x .state) ≡ false → worthOf u x + 1 ≤ worthOf u (unitAt b u)
+      → Lower b (changed b (set (b .parents) u (parentAt b u)) (set (b .units) u x) (set (b .slots) s (slotAt b s)) debt cs ds)
   lower-unit u s x debt l k a w = lower-both u s x (slotAt b s) debt l k a (q .no-work s) (omega (arith, w))
 
-  lower-slot : (u s : ℕ) (y : Slot) (debt : ℕ) {cs ps : List ℕ} → u < b .n → s < b .m → isWork (y .kind) ≡ false → slotWorthOf y + 1 ≤ slotWorthOf (slotAt b s)
-      → Lower b (changed b (set (b .units) u (unitAt b u)) (set (b .slots) s y) debt cs ps)
+  lower-slot : (u s : ℕ) (y : Slot) (debt : ℕ) {cs ds : List ℕ} → u < b .n → s < b .m → isWork (y .kind) ≡ false → slotWorthOf y + 1 ≤ slotWorthOf (slotAt b s)
+      → Lower b (changed b (set (b .parents) u (parentAt b u)) (set (b .units) u (unitAt b u)) (set (b .slots) s y) debt cs ds)
   lower-slot u s y debt l k a w = lower-both u s (unitAt b u) y debt l k (q .none-active u) a (omega (arith, w))
 
   -- no unit is active, so none is suspended, and no request and no supply is under way
@@ -156,19 +160,19 @@ module _ (b : Sheet) (h : Sound b) (q : Quiet b) where
       x = unitAt b v
 
       receiver-used : v < b .n
-      receiver-used =
-          let row = slot-row-as b h (r .slot) Return (shown 14 c) e in
-          omega (arith, row, parent-below b h (y .from) (row .0) (row .1 .0))
+      receiver-used = omega (arith, slot-row-as b h (r .slot) Return (shown 14 c) e)
 
       one-deeper : 1 ≤ v → (b .delay + 2) * depth (b .parents) v ≡ (b .delay + 2) * depth (b .parents) (parentAt b v) + (b .delay + 2)
       one-deeper l = ap (λ (k : ℕ). (b .delay + 2) * k) (deeper-than-parent b h v l receiver-used) ∙ mul-suc (b .delay + 2) (depth (b .parents) (parentAt b v))
 
       -- whatever its countdown is then: at most the delay
-      waits-lower : (k : ℕ) {cs ps : List ℕ} → k ≤ b .delay → 1 ≤ v → Lower b (changed b (set (b .units) v (waitingWith (x .weight + y .weight) k)) (set (b .slots) (r .slot) blankSlot) (b .debt) cs ps)
+      waits-lower : (k : ℕ) {cs ds : List ℕ} → k ≤ b .delay → 1 ≤ v
+          → Lower b (changed b (set (b .parents) v (parentAt b v)) (set (b .units) v (waitingWith (x .weight + y .weight) k)) (set (b .slots) (r .slot) blankSlot) (b .debt) cs ds)
       waits-lower k p l =
           lower-both v (r .slot) (waitingWith (x .weight + y .weight) k) blankSlot (b .debt) receiver-used (shown 14 c) refl refl (omega (arith, one-deeper l, slot-worth-as (r .slot) Return e))
 
-      returned-lower : {cs ps : List ℕ} → 1 ≤ v → (k : State) → x .state ≡ k → Lower b (changed b (set (b .units) v (returned (b .delay) x (y .weight) k)) (set (b .slots) (r .slot) blankSlot) (b .debt) cs ps)
+      returned-lower : {cs ds : List ℕ} → 1 ≤ v → (k : State) → x .state ≡ k
+          → Lower b (changed b (set (b .parents) v (parentAt b v)) (set (b .units) v (returned (b .delay) x (y .weight) k)) (set (b .slots) (r .slot) blankSlot) (b .debt) cs ds)
       returned-lower l Idle z = waits-lower _ (omega (arith, unit-row-as b h v Idle receiver-used z)) l
       returned-lower l Active z = absurd (not-active v z)
       returned-lower l Waiting z = waits-lower _ (omega (arith, unit-row-as b h v Waiting receiver-used z)) l
@@ -193,7 +197,7 @@ module _ (b : Sheet) (h : Sound b) (q : Quiet b) where
     no-active : isActive (unitAt b (r .unit) .state) ≡ true → ⊥
     no-active e = true-not-false (sym e ∙ q .none-active (r .unit))
 
-    lower-as : (a : Action) → AcceptedAs b r a → step b r .answer ≡ 0 → startBy a ≡ 0 → LowerBy a (unitOf b r a) (slotOf r a) (doneOn b r a)
+    lower-as : (a : Action) → AcceptedAs b r a → step b r .answer ≡ 0 → undrainedBy a ≡ 0 → LowerBy a (unitOf b r a) (slotOf r a) (doneOn b r a)
     unfolding applied
     lower-as Unknown c z n = absurd (true-not-false (sym (shown 16 c)))
     lower-as Start c z n = absurd (omega (arith, n))
@@ -203,32 +207,44 @@ module _ (b : Sheet) (h : Sound b) (q : Quiet b) where
     lower-as Rest c z n = absurd (no-active (shown 31 c))
     lower-as Tick c z n = tick-lower c
     lower-as Release c z n = release-lower c
+    lower-as Move c z n = absurd (omega (arith, n))
 
     pub drain-step-lowers : DrainStep b r → Lower b (step b r .sheet)
     drain-step-lowers z =
         let c = accepted-as b r h (actionOf (r .kind)) refl (z .0) in
         subst (λ (o : Outcome). Lower b (o .sheet)) (sym (c .gives)) (lower-as (actionOf (r .kind)) c (z .0) (z .1))
 
--- ---- the bound: each waiting unit and each return is worth at most (delay + 2) × the greatest depth
+-- ---- the bound: each waiting unit and each return is worth at most (delay + 2) × the greatest depth + 1
 module _ (b : Sheet) (h : Sound b) where
+  abbrev deep : ℕ
+  deep = (b .delay + 2) * greatestDepth b
+
   abbrev most : ℕ
-  most = (b .delay + 2) * greatestDepth b
+  most = deep + 1
 
-  -- a unit one deeper than its parent, against the greatest depth
-  deep-most : (i : ℕ) → 1 ≤ i → i < b .n → (b .delay + 2) * depth (b .parents) (parentAt b i) + (b .delay + 2) ≤ most
-  deep-most i p l =
-      subst (λ (k : ℕ). k ≤ most) (mul-suc (b .delay + 2) (depth (b .parents) (parentAt b i)))
-      (mul-le-mul-left (b .delay + 2) (subst (λ (k : ℕ). k ≤ greatestDepth b) (deeper-than-parent b h i p l) (depth-at-most (b .parents) (b .n) i l)))
+  -- a unit in use, and one above another, against the greatest depth
+  deep-most : (k : ℕ) → k ≤ greatestDepth b → (b .delay + 2) * k ≤ deep
+  deep-most k l = mul-le-mul-left (b .delay + 2) l
 
-  unit-most : (i : ℕ) → i < 64 → unitWorth (b .delay) (b .parents) i (unitAt b i) (unitAt b i .state) ≤ oneIf (isWaiting (unitAt b i .state)) * most
+  deeper-most : (k : ℕ) → suc k ≤ greatestDepth b → (b .delay + 2) * k + (b .delay + 2) ≤ deep
+  deeper-most k l = subst (λ (x : ℕ). x ≤ deep) (mul-suc (b .delay + 2) k) (deep-most (suc k) l)
+
+  abbrev waitsAt : UnitRecord → ℕ
+  waitsAt u = oneIf (isWaiting (u .state))
+
+  -- a waiting unit is worth at least 1 less: it is one deeper than its parent
+  unit-most : (i : ℕ) → i < 64 → unitWorth (b .delay) (b .parents) i (unitAt b i) (unitAt b i .state) + waitsAt (unitAt b i) * 1 ≤ waitsAt (unitAt b i) * most
   unit-most i l = by-state (unitAt b i .state) refl
     where
-      waiting-most : unitAt b i .state ≡ Waiting → unitWorth (b .delay) (b .parents) i (unitAt b i) Waiting ≤ 1 * most
+      waiting-most : unitAt b i .state ≡ Waiting → unitWorth (b .delay) (b .parents) i (unitAt b i) Waiting + 1 * 1 ≤ 1 * most
       waiting-most e =
-          below-or-not i (b .n) (λ p. omega (arith, deep-most i (unit-row-as b h i Waiting p e .1 .1 .1 .0) p, unit-row-as b h i Waiting p e))
+          below-or-not i (b .n)
+          (λ p.
+          let row = unit-row-as b h i Waiting p e in
+          omega (arith, deeper-most (depth (b .parents) (parentAt b i)) (subst (λ (k : ℕ). k ≤ greatestDepth b) (deeper-than-parent b h i (row .1 .1 .1 .0) p) (depth-at-most (b .parents) (b .n) i p)), row))
           (λ p. absurd (true-not-false (sym (unit-past b h i p) ∙ ap isIdle e)))
 
-      by-state : (k : State) → unitAt b i .state ≡ k → unitWorth (b .delay) (b .parents) i (unitAt b i) k ≤ oneIf (isWaiting k) * most
+      by-state : (k : State) → unitAt b i .state ≡ k → unitWorth (b .delay) (b .parents) i (unitAt b i) k + oneIf (isWaiting k) * 1 ≤ oneIf (isWaiting k) * most
       by-state Idle e = omega arith
       by-state Active e = omega arith
       by-state Waiting e = waiting-most e
@@ -236,33 +252,42 @@ module _ (b : Sheet) (h : Sound b) where
   abbrev returnAt : Slot → ℕ
   returnAt y = oneIf (isReturn (y .kind))
 
-  -- a return is worth at least d + 1 less: the ticks of its sender and the release are behind it
-  slot-most : (j : ℕ) → j < 256 → slotWorth (b .delay) (b .parents) (slotAt b j) (slotAt b j .kind) + returnAt (slotAt b j) * (b .delay + 1) ≤ returnAt (slotAt b j) * most
+  abbrev receiverDepth : Slot → ℕ
+  receiverDepth y = depth (b .parents) (y .to)
+
+  abbrev shallowAt : Slot → ℕ
+  shallowAt y = oneIf (isReturn (y .kind) && ltb (receiverDepth y) (greatestDepth b))
+
+  -- a return to a unit that is not among the deepest is worth at least d + 2 less
+  slot-most : (j : ℕ) → j < 256 → slotWorth (b .delay) (b .parents) (slotAt b j) (slotAt b j .kind) + shallowAt (slotAt b j) * (b .delay + 2) ≤ returnAt (slotAt b j) * most
   slot-most j l = by-kind (slotAt b j .kind) refl
     where
-      return-most : slotAt b j .kind ≡ Return → slotWorth (b .delay) (b .parents) (slotAt b j) Return + 1 * (b .delay + 1) ≤ 1 * most
+      by-depth : (k : ℕ) → k ≤ greatestDepth b → (t : Bool) → ltb k (greatestDepth b) ≡ t → 1 + (b .delay + 2) * k + oneIf t * (b .delay + 2) ≤ 1 * most
+      by-depth k p true e = omega (arith, deeper-most k (ltb-true k (greatestDepth b) e))
+      by-depth k p false e = omega (arith, deep-most k p)
+
+      return-most : slotAt b j .kind ≡ Return → slotWorth (b .delay) (b .parents) (slotAt b j) Return + oneIf (ltb (receiverDepth (slotAt b j)) (greatestDepth b)) * (b .delay + 2) ≤ 1 * most
       return-most e =
-          below-or-not j (b .m)
-          (λ p.
-          let row = slot-row-as b h j Return p e in
-          omega (arith, deep-most (slotAt b j .from) (row .0) (row .1 .0), ap (λ (k : ℕ). (b .delay + 2) * depth (b .parents) k) (row .1 .1 .0)))
+          below-or-not j (b .m) (λ p. by-depth _ (depth-at-most (b .parents) (b .n) (slotAt b j .to) (omega (arith, slot-row-as b h j Return p e))) _ refl)
           (λ p. absurd (true-not-false (sym (slot-past b h j p) ∙ ap isEmpty e)))
 
-      by-kind : (k : Kind) → slotAt b j .kind ≡ k → slotWorth (b .delay) (b .parents) (slotAt b j) k + oneIf (isReturn k) * (b .delay + 1) ≤ oneIf (isReturn k) * most
+      by-kind : (k : Kind) → slotAt b j .kind ≡ k
+          → slotWorth (b .delay) (b .parents) (slotAt b j) k + oneIf (isReturn k && ltb (receiverDepth (slotAt b j)) (greatestDepth b)) * (b .delay + 2) ≤ oneIf (isReturn k) * most
       by-kind Empty e = omega arith
       by-kind Work e = omega arith
       by-kind Return e = return-most e
       by-kind Request e = omega arith
       by-kind Supply e = omega arith
 
-  pub potential-less : potential b + returnsUnderWay b * (b .delay + 1) ≤ drainBound b
-  unfolding drainBound waitingUnits returnsUnderWay unitsWorth slotsWorth
+  pub potential-less : potential b + (waitingUnits b + shallowReturns b * (b .delay + 2)) ≤ drainBound b
+  unfolding drainBound waitingUnits returnsUnderWay shallowReturns unitsWorth slotsWorth
   potential-less = omega (
     arith,
-    sum-bound (λ i u. unitWorth (b .delay) (b .parents) i u (u .state)) (λ i u. oneIf (isWaiting (u .state))) most (b .units) blankUnit (λ i l. unit-most i (omega (arith, l, h .s1-sizes))),
-    sum-plus (λ j y. slotWorth (b .delay) (b .parents) y (y .kind)) (λ j y. returnAt y) (b .delay + 1) (b .slots),
-    sum-bound (λ j y. slotWorth (b .delay) (b .parents) y (y .kind) + returnAt y * (b .delay + 1)) (λ j y. returnAt y) most (b .slots) blankSlot (λ j l. slot-most j (omega (arith, l, h .s1-sizes))),
-    add-mul (sumOf (λ i u. oneIf (isWaiting (u .state))) (b .units)) (sumOf (λ j y. returnAt y) (b .slots)) most,
+    sum-plus (λ i u. unitWorth (b .delay) (b .parents) i u (u .state)) (λ i u. waitsAt u) 1 (b .units),
+    sum-bound (λ i u. unitWorth (b .delay) (b .parents) i u (u .state) + waitsAt u * 1) (λ i u. waitsAt u) most (b .units) blankUnit (λ i l. unit-most i (omega (arith, l, h .s1-sizes))),
+    sum-plus (λ j y. slotWorth (b .delay) (b .parents) y (y .kind)) (λ j y. shallowAt y) (b .delay + 2) (b .slots),
+    sum-bound (λ j y. slotWorth (b .delay) (b .parents) y (y .kind) + shallowAt y * (b .delay + 2)) (λ j y. returnAt y) most (b .slots) blankSlot (λ j l. slot-most j (omega (arith, l, h .s1-sizes))),
+    add-mul (sumOf (λ i u. waitsAt u) (b .units)) (sumOf (λ j y. returnAt y) (b .slots)) most,
   )
 
   pub potential-bound : potential b ≤ drainBound b

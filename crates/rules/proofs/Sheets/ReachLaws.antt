@@ -17,7 +17,7 @@ use Rattle.rules.proofs.FactLaws.{true-not-false}
 use Rattle.rules.proofs.Sheets.Accepted.{AcceptedAs, shown}
 use Rattle.rules.proofs.Sheets.SpotLaws.{UnitEntry, entryAt, Ground}
 use Rattle.rules.specs.declared.Action.{Action}
-use Rattle.rules.specs.declared.Action.the-variants.{Unknown, Start, Send, Request, Deliver, Rest, Tick, Release}
+use Rattle.rules.specs.declared.Action.the-variants.{Unknown, Start, Send, Request, Deliver, Rest, Tick, Release, Move}
 use Rattle.rules.specs.declared.Effect.the-variants.{OnUnit}
 use Rattle.rules.specs.declared.UnitRecord.{UnitRecord}
 use Rattle.rules.specs.declared.Slot.{Slot}
@@ -30,10 +30,10 @@ abbrev pub checksFrom : Action → Ground → UnitEntry → Slot → List Check
 checksFrom a g e y = recordChecks (g .debt) (e .unit) y (e .counts .created) a
 
 abbrev pub changeFrom : StepRecord → Action → Ground → UnitEntry → Slot → Change
-changeFrom r a g e y = changeOf (recordEffect (g .debt) (g .delay) r (e .unit) (e .parent) y a) (e .unit) y (g .debt) (e .counts) (counted (e .counts) y a)
+changeFrom r a g e y = changeOf (recordEffect (g .debt) (g .delay) r (e .unit) (e .parent) y a) (e .unit) (e .parent) y (g .debt) (e .counts) (counted (e .counts) y a)
 
 abbrev pub withSlot : Change → Slot → Change
-withSlot c y = record { answer = c .answer; debt = c .debt; unit = c .unit; slot = y; counts = c .counts }
+withSlot c y = record { answer = c .answer; parent = c .parent; debt = c .debt; unit = c .unit; slot = y; counts = c .counts }
 
 -- a step without a slot neither reads one nor changes one
 pub record Slotless (r : StepRecord) (a : Action) : Type 0 where
@@ -42,13 +42,13 @@ pub record Slotless (r : StepRecord) (a : Action) : Type 0 where
   pub same-change : (g : Ground) (e : UnitEntry) (y z : Slot) → changeFrom r a g e y ≡ withSlot (changeFrom r a g e z) y
 
 -- a rest changes its unit in one of two ways
-either-unit : (t : Bool) (v w : UnitRecord) (d f : ℕ) (x : UnitRecord) (y z : Slot) (debt : ℕ) (k l : Counts)
-    → changeOf (cond t (OnUnit v d) (OnUnit w f)) x y debt k l ≡ withSlot (changeOf (cond t (OnUnit v d) (OnUnit w f)) x z debt k l) y
-either-unit true v w d f x y z debt k l = refl
-either-unit false v w d f x y z debt k l = refl
+either-unit : (t : Bool) (v w : UnitRecord) (d f : ℕ) (x : UnitRecord) (p : ℕ) (y z : Slot) (debt : ℕ) (k l : Counts)
+    → changeOf (cond t (OnUnit v d) (OnUnit w f)) x p y debt k l ≡ withSlot (changeOf (cond t (OnUnit v d) (OnUnit w f)) x p z debt k l) y
+either-unit true v w d f x p y z debt k l = refl
+either-unit false v w d f x p y z debt k l = refl
 
 rest-change : (r : StepRecord) (g : Ground) (e : UnitEntry) (y z : Slot) → changeFrom r Rest g e y ≡ withSlot (changeFrom r Rest g e z) y
-rest-change r g e y z = either-unit (eqb (r .unit) 0) blankUnit (waitingWith (e .unit .weight) (g .delay)) (g .debt - e .unit .weight) (g .debt) (e .unit) y z (g .debt) (e .counts) (counted (e .counts) z Rest)
+rest-change r g e y z = either-unit (eqb (r .unit) 0) blankUnit (waitingWith (e .unit .weight) (g .delay)) (g .debt - e .unit .weight) (g .debt) (e .unit) (e .parent) y z (g .debt) (e .counts) (counted (e .counts) z Rest)
 
 -- ---- of units these spots have u alone, of slots s alone or none
 pub data SlotReached (ps : List Spot) (s : ℕ) (Alone : Type 0) : Type 0 where
@@ -83,6 +83,7 @@ reaches b r Deliver c = unit-and-slot (slotAt b (r .slot) .to) (r .slot) (λ i. 
 reaches b r Rest c = unit-only (r .unit) 0 (λ v w. refl) (λ g e y z. refl) (rest-change r)
 reaches b r Tick c = unit-only (r .unit) 0 (λ v w. refl) (λ g e y z. refl) (λ g e y z. refl)
 reaches b r Release c = unit-and-slot (r .unit) (r .slot) (λ i. refl) (λ j. refl)
+reaches b r Move c = unit-only (r .unit) 0 (λ v w. refl) (λ g e y z. refl) (λ g e y z. refl)
 
 -- what a step touches is read where it touches
 pub touches-same : (b c : Sheet) (r : StepRecord) → ((p : Spot) → among p (touched b r) ≡ true → entryAt c p ≡ entryAt b p) → touched c r ≡ touched b r
@@ -97,3 +98,4 @@ touches-same b c r same = by-action (actionOf (r .kind)) same
     by-action Rest e = refl
     by-action Tick e = refl
     by-action Release e = refl
+    by-action Move e = refl

@@ -92,6 +92,11 @@ root-or-other {A} P u w x y f g = by-test (eqb u 0) refl
     by-test true e = f (eqb-true u 0 e)
     by-test false e = g (omega (arith, eqb-false u 0 e))
 
+-- a lower parent is what a unit's row asks for; unit 0 has none
+pub lower-fits : (u p : ℕ) → p < u → Claims (lowerParent u p)
+lower-fits zero p l = absurd (native.Mathlib.Nat.not-suc-le-zero l)
+lower-fits (suc u) p l = (l, tt)
+
 -- ---- the entries of a sound sheet
 module _ (b : Sheet) (h : Sound b) where
   pub parent-row : (i : ℕ) → i < b .n → Claims (lowerParent i (parentAt b i))

@@ -110,7 +110,7 @@ module _ (b : Sheet) (u s : ℕ) (d : Change) where
   pub unit-else : (i : ℕ) → (i ≡ u → ⊥) → unitEntry storedIn i ≡ unitEntry b i
   unit-else i n = λ k. record {
     unit = getD-set-other (b .units) u i (d .unit) blankUnit n k;
-    parent = parentAt b i;
+    parent = getD-set-other (b .parents) u i (d .parent) 0 n k;
     counts = record { created = getD-set-other (b .created) u i (d .counts .created) 0 n k; processed = getD-set-other (b .processed) u i (d .counts .processed) 0 n k };
   }
 

@@ -12,7 +12,7 @@ use Rattle.rules.specs.Sheets.Sound.{stateRow, pendingIn, Sound, kindRow
 use Rattle.rules.specs.Letters.{slotOf}
 use Rattle.rules.specs.Effects.{share, withWeight, shared, message, returned, waitingWith, worked, supplied, deliverEffect, returnEffect}
 use Rattle.rules.specs.Sheets.Steps.{unitOf, doneOn, step}
-use Rattle.rules.proofs.Sheets.SoundLaws.{root-or-other, parent-below, weights-fit}
+use Rattle.rules.proofs.Sheets.SoundLaws.{root-or-other, lower-fits, parent-below, weights-fit}
 use Rattle.rules.proofs.Sheets.Changes.{Fits, FitsEffect, unit-change, slot-change, effect-sound}
 use Rattle.rules.proofs.Sheets.CountFits.{step-counts}
 use Rattle.rules.proofs.Sheets.EntryLaws.{active-is, waiting-is, empty-is, state-row, waiting-row, unit-row-as, slot-row-as, pending-as, suspended-active, pending-suspended, idle-at-zero}
@@ -22,7 +22,7 @@ use Rattle.rules.specs.declared.State.the-variants.{Idle, Active, Waitin
 use Rattle.rules.specs.declared.Kind.{Kind}
 use Rattle.rules.specs.declared.Kind.the-variants.{Empty, Work, Return, Request, Supply}
 use Rattle.rules.specs.declared.Action.{Action}
-use Rattle.rules.specs.declared.Action.the-variants.{Unknown, Start, Send, Request as RequestStep, Deliver, Rest, Tick, Release}
+use Rattle.rules.specs.declared.Action.the-variants.{Unknown, Start, Send, Request as RequestStep, Deliver, Rest, Tick, Release, Move}
 use Rattle.rules.specs.declared.Effect.the-variants.{OnSlot, OnBoth}
 use Rattle.rules.specs.declared.UnitRecord.{UnitRecord}
 use Rattle.rules.specs.declared.Slot.{Slot}
@@ -110,12 +110,16 @@ module _ (b : Sheet) (r : StepRecord) (h : Sound b) where
         unit-used = shown 13 c;
         slot-used = shown 14 c;
         unit-fits = (refl, (refl, (refl, tt)));
-        slot-fits = omega (arith, waiting, shown 13 c);
+        slot-fits = omega (arith, waiting, shown 13 c, parent-below b h (r .unit) (waiting .1 .1 .1 .0) (shown 13 c));
         pending-here = omega (arith, pending-as (r .unit) (slotAt b (r .slot)) Empty empty, ap oneIf (waiting .1 .1 .0));
         pending-else = λ i n. sym (pending-as i (slotAt b (r .slot)) Empty empty);
         weight-kept = omega (arith, slot-row-as b h (r .slot) Empty (shown 14 c) empty);
         debt-fits = debt-ceiling;
       }
+
+  -- a parent that is lower is what S1 asks of a unit's
+  move-fits : AcceptedAs b r Move → FitsEffect b (r .unit) 0 (doneOn b r Move)
+  move-fits c = (shown 13 c, first-slot, lower-fits (r .unit) (r .other) (shown 47 c))
 
   -- ---- deliver, by the kind of the message
   module _ (c : AcceptedAs b r Deliver) where
@@ -171,7 +175,7 @@ module _ (b : Sheet) (r : StepRecord) (h : Sound b) where
       return-row = slot-row-as b h (r .slot) Return used e
 
       receiver : y .to < b .n
-      receiver = omega (arith, return-row, parent-below b h (y .from) (return-row .0) (return-row .1 .0))
+      receiver = omega (arith, return-row)
 
       kept : (i : ℕ) → 0 ≡ pendingIn i y (y .kind)
       kept = unmoved Return e (λ i. refl)
@@ -217,6 +221,7 @@ module _ (b : Sheet) (r : StepRecord) (h : Sound b) where
   step-fits Rest c = rest-fits c
   step-fits Tick c = tick-fits c
   step-fits Release c = release-fits c
+  step-fits Move c = move-fits c
 
   -- an accepted step keeps a sound sheet sound
   pub accepted-keeps-sound : (a : Action) → AcceptedAs b r a → Sound (step b r .sheet)

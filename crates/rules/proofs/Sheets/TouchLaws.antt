@@ -19,7 +19,7 @@ use Rattle.rules.proofs.Sheets.Accepted.{AcceptedAs, shown, step-does, 
 use Rattle.rules.proofs.Sheets.SpotLaws.{unitEntry, entryAt, Ground, groundOf, same-store, unit-else, slot-else, slot-kept}
 use Rattle.rules.proofs.Sheets.ReachLaws.{checksFrom, changeFrom, withSlot, Slotless, SlotReached, its-slot, no-slot, Reaches, reaches}
 use Rattle.rules.specs.declared.Action.{Action}
-use Rattle.rules.specs.declared.Action.the-variants.{Unknown, Start, Send, Request, Deliver, Rest, Tick, Release}
+use Rattle.rules.specs.declared.Action.the-variants.{Unknown, Start, Send, Request, Deliver, Rest, Tick, Release, Move}
 use Rattle.rules.specs.declared.Slot.{Slot}
 use Rattle.rules.specs.declared.Change.{Change}
 use Rattle.rules.specs.declared.StepRecord.{StepRecord}
@@ -67,6 +67,7 @@ module _ (b : Sheet) (r : StepRecord) (h : Sound b) (z : step b r .answer ≡ 0)
       by-action Rest c q = refl
       by-action Tick c q = refl
       by-action Release c q = refl
+      by-action Move c q = refl
 
   reached : Reaches b r a
   reached = reaches b r a told
@@ -143,7 +144,7 @@ module _ (b : Sheet) (r : StepRecord) (h : Sound b) (z : step b r .answer ≡ 0)
     at-unit : unitEntry repeated u ≡ unitEntry result u
     at-unit = λ i. record {
       unit = same-store (c .units) (b .units) u (change b .unit) blankUnit (omega (arith, h .s1-sizes, k .s1-sizes)) i;
-      parent = own-entry i .parent;
+      parent = same-store (c .parents) (b .parents) u (change b .parent) 0 (omega (arith, h .s1-sizes, k .s1-sizes)) i;
       counts = record {
         created = same-store (c .created) (b .created) u (change b .counts .created) 0 (omega (arith, h .s1-sizes, k .s1-sizes)) i;
         processed = same-store (c .processed) (b .processed) u (change b .counts .processed) 0 (omega (arith, h .s1-sizes, k .s1-sizes)) i;

@@ -1,15 +1,16 @@
 -- Drains: the accepted steps after which no new work can come, and the most of them that there can be.
 use mathlib.Core.Path.{_≡_}
-use mathlib.Core.Bool.{false}
+use mathlib.Core.Bool.{false, _&&_}
 use mathlib.Core.List.{List}
 use Prim.Native.Nat.{ℕ, zero, suc, _+_, _*_, _<_}
+use lib.Dec.{ltb}
 use Rattle.rules.specs.Facts.{oneIf, sumOf}
 use Rattle.rules.specs.Events.{DrainStepOf, DrainOf}
 use Rattle.rules.specs.Words.{isActive, isWaiting, isWork, isReturn}
 use Rattle.rules.specs.Sheets.Sheet.{Sheet, unitAt, slotAt}
-use Rattle.rules.specs.Sheets.Depths.{greatestDepth}
+use Rattle.rules.specs.Sheets.Depths.{depth, greatestDepth}
 use Rattle.rules.specs.Actions.{kindOf}
-use Rattle.rules.specs.Sheets.Lists.{steps, startCount}
+use Rattle.rules.specs.Sheets.Lists.{steps, undrainedCount}
 use Rattle.rules.specs.declared.State.the-variants.{Waiting}
 use Rattle.rules.specs.declared.Kind.the-variants.{Empty, Return}
 use Rattle.rules.specs.declared.Action.the-variants.{Deliver, Tick, Release}
@@ -20,12 +21,12 @@ pub record Quiet (b : Sheet) : Type 0 where
   pub none-active : (i : ℕ) → isActive (unitAt b i .state) ≡ false
   pub no-work : (j : ℕ) → isWork (slotAt b j .kind) ≡ false
 
--- the accepted steps but starts, one and a list of them
+-- the accepted steps but starts and moves, one and a list of them
 abbrev pub DrainStep : Sheet → StepRecord → Type 0
-DrainStep b r = DrainStepOf steps startCount b r
+DrainStep b r = DrainStepOf steps undrainedCount b r
 
 abbrev pub Drain : Sheet → List StepRecord → Type 0
-Drain b rs = DrainOf steps startCount b rs
+Drain b rs = DrainOf steps undrainedCount b rs
 
 -- the ways to make a drain one longer: the return in slot s is delivered; the waiting unit i ticks or, with its countdown at 0, is
 -- released into slot 0
@@ -52,6 +53,10 @@ waitingUnits b = sumOf (λ i u. oneIf (isWaiting (u .state))) (b .units)
 unfoldable pub returnsUnderWay : Sheet → ℕ
 returnsUnderWay b = sumOf (λ j y. oneIf (isReturn (y .kind))) (b .slots)
 
--- the most steps that a drain from this board can have
+-- the most steps that a drain from this board can have (M-108)
 unfoldable pub drainBound : Sheet → ℕ
-drainBound b = (waitingUnits b + returnsUnderWay b) * ((b .delay + 2) * greatestDepth b)
+drainBound b = (waitingUnits b + returnsUnderWay b) * ((b .delay + 2) * greatestDepth b + 1)
+
+-- returns under way to a unit that is not among the deepest
+unfoldable pub shallowReturns : Sheet → ℕ
+shallowReturns b = sumOf (λ j y. oneIf (isReturn (y .kind) && ltb (depth (b .parents) (y .to)) (greatestDepth b))) (b .slots)

@@ -1,5 +1,5 @@
 -- A list of steps: the sheet after it, its answers, and its history, each read on the sheet just before the step.
-use mathlib.Core.Bool.{Bool, cond, _&&_}
+use mathlib.Core.Bool.{Bool, cond, _&&_, _||_}
 use mathlib.Core.List.{List}
 use Prim.Native.Nat.{ℕ}
 use lib.Dec.{eqb}
@@ -10,7 +10,7 @@ use Rattle.rules.specs.Actions.{actionOf, isAction}
 use Rattle.rules.specs.Sheets.Sheet.{Sheet, unitAt, slotAt}
 use Rattle.rules.specs.Sheets.Steps.{step}
 use Rattle.rules.specs.declared.Action.{Action}
-use Rattle.rules.specs.declared.Action.the-variants.{Start, Deliver, Rest}
+use Rattle.rules.specs.declared.Action.the-variants.{Start, Deliver, Rest, Move}
 use Rattle.rules.specs.declared.UnitRecord.{UnitRecord}
 use Rattle.rules.specs.declared.Slot.{Slot}
 use Rattle.rules.specs.declared.StepRecord.{StepRecord}
@@ -38,6 +38,13 @@ startBy a = oneIf (isAction Start a)
 
 abbrev pub startCount : Sheet → StepRecord → ℕ
 startCount b r = startBy (actionOf (r .kind))
+
+-- 1 for a step that no drain has: a start or a move (M-108)
+abbrev pub undrainedBy : Action → ℕ
+undrainedBy a = oneIf (isAction Start a || isAction Move a)
+
+abbrev pub undrainedCount : Sheet → StepRecord → ℕ
+undrainedCount b r = undrainedBy (actionOf (r .kind))
 
 -- 1 for a granted request: the delivery of a slot that holds a request
 abbrev pub grantBy : Slot → Action → ℕ

@@ -2,7 +2,7 @@
 use mathlib.Core.Bool.{Bool, cond}
 use mathlib.Core.List.{List, [], _∷_}
 use Prim.Native.Nat.{ℕ, zero, suc, _+_}
-use lib.ListN.{length, getD}
+use lib.ListN.{length}
 use lib.Dec.{ltb, eqb}
 use Rattle.rules.specs.Facts.{Fact, below, atMost, equal, holds, fails, Claims, tests, Each, each, sumOf, oneIf}
 use Rattle.rules.specs.Words.{isIdle, isEmpty, isWork, grant, ceiling, full}
@@ -47,27 +47,27 @@ stateRow delay i u Waiting = atMost 1 (u .weight) ∷ atMost (u .countdown) dela
 abbrev pub unitRow : ℕ → ℕ → ℕ → UnitRecord → List Fact
 unitRow n delay i u = cond (ltb i n) (stateRow delay i u (u .state)) (holds (isIdle (u .state)) ∷ stateRow delay i u Idle)
 
--- S3: what a slot in use has in each kind
-abbrev pub kindRow : ℕ → List ℕ → Slot → Kind → List Fact
-kindRow n parents y Empty = equal (y .from) 0 ∷ equal (y .to) 0 ∷ equal (y .weight) 0 ∷ []
-kindRow n parents y Work = below (y .from) n ∷ below (y .to) n ∷ atMost 1 (y .weight) ∷ []
-kindRow n parents y Return = atMost 1 (y .from) ∷ below (y .from) n ∷ equal (y .to) (getD parents (y .from) 0) ∷ atMost 1 (y .weight) ∷ []
-kindRow n parents y Request = below (y .from) n ∷ equal (y .to) 0 ∷ equal (y .weight) 0 ∷ []
-kindRow n parents y Supply = equal (y .from) 0 ∷ below (y .to) n ∷ equal (y .weight) grant ∷ []
+-- S3: what a slot in use has in each kind; a return's receiver is lower than its sender (M-108)
+abbrev pub kindRow : ℕ → Slot → Kind → List Fact
+kindRow n y Empty = equal (y .from) 0 ∷ equal (y .to) 0 ∷ equal (y .weight) 0 ∷ []
+kindRow n y Work = below (y .from) n ∷ below (y .to) n ∷ atMost 1 (y .weight) ∷ []
+kindRow n y Return = atMost 1 (y .from) ∷ below (y .from) n ∷ below (y .to) (y .from) ∷ atMost 1 (y .weight) ∷ []
+kindRow n y Request = below (y .from) n ∷ equal (y .to) 0 ∷ equal (y .weight) 0 ∷ []
+kindRow n y Supply = equal (y .from) 0 ∷ below (y .to) n ∷ equal (y .weight) grant ∷ []
 
 -- S3 for a slot in use; S1 for an entry from M on, which is blank
-abbrev pub slotRow : ℕ → ℕ → List ℕ → ℕ → Slot → List Fact
-slotRow n m parents j y = cond (ltb j m) (kindRow n parents y (y .kind)) (holds (isEmpty (y .kind)) ∷ kindRow n parents y Empty)
+abbrev pub slotRow : ℕ → ℕ → ℕ → Slot → List Fact
+slotRow n m j y = cond (ltb j m) (kindRow n y (y .kind)) (holds (isEmpty (y .kind)) ∷ kindRow n y Empty)
 
 -- the rows of a sheet's entries
 abbrev pub unitRowOn : Sheet → ℕ → UnitRecord → List Fact
 unitRowOn b = unitRow (b .n) (b .delay)
 
 abbrev pub kindRowOn : Sheet → Slot → Kind → List Fact
-kindRowOn b = kindRow (b .n) (b .parents)
+kindRowOn b = kindRow (b .n)
 
 abbrev pub slotRowOn : Sheet → ℕ → Slot → List Fact
-slotRowOn b = slotRow (b .n) (b .m) (b .parents)
+slotRowOn b = slotRow (b .n) (b .m)
 
 -- S4: 1 where a slot is a request from unit i or a supply to it
 abbrev pub pendingIn : ℕ → Slot → Kind → ℕ

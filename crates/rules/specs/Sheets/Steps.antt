@@ -43,19 +43,21 @@ effectBy b r a =
 unfoldable pub effect : Sheet → StepRecord → Effect
 effect b r = effectBy b r (actionOf (r .kind))
 
--- the sheet with its units, its slots, its debt and its counts replaced
-abbrev pub changed : Sheet → List UnitRecord → List Slot → ℕ → List ℕ → List ℕ → Sheet
-changed b us ys debt cs ps = record { n = b .n; m = b .m; delay = b .delay; debt = debt; parents = b .parents; units = us; slots = ys; created = cs; processed = ps }
+-- the sheet with its parents (M-108), its units, its slots, its debt and its counts replaced
+abbrev pub changed : Sheet → List ℕ → List UnitRecord → List Slot → ℕ → List ℕ → List ℕ → Sheet
+changed b ps us ys debt cs ds = record { n = b .n; m = b .m; delay = b .delay; debt = debt; parents = ps; units = us; slots = ys; created = cs; processed = ds }
 
 -- the answer, and the sheet with the change stored at the unit u and the slot s
 abbrev pub stored : Sheet → ℕ → ℕ → Change → Outcome
 stored b u s c = record {
   answer = c .answer;
-  sheet = changed b (set (b .units) u (c .unit)) (set (b .slots) s (c .slot)) (c .debt) (set (b .created) u (c .counts .created)) (set (b .processed) u (c .counts .processed));
+  sheet =
+      changed b (set (b .parents) u (c .parent)) (set (b .units) u (c .unit)) (set (b .slots) s (c .slot)) (c .debt) (set (b .created) u (c .counts .created))
+      (set (b .processed) u (c .counts .processed));
 }
 
 unfoldable pub applied : Sheet → Action → ℕ → ℕ → Effect → Outcome
-applied b a u s e = stored b u s (changeOf e (unitAt b u) (slotAt b s) (b .debt) (countsAt b u) (counted (countsAt b u) (slotAt b s) a))
+applied b a u s e = stored b u s (changeOf e (unitAt b u) (parentAt b u) (slotAt b s) (b .debt) (countsAt b u) (counted (countsAt b u) (slotAt b s) a))
 
 -- a step on a sheet known to be sound
 unfoldable pub soundStep : Sheet → StepRecord → Outcome

@@ -1,4 +1,4 @@
--- What a step touches on a sheet (M-107): its unit u and its slot s, where it has them, and for a delivery the slot's receiver; a send's v is not touched.
+-- What a step touches on a sheet (M-107): its unit u and its slot s, where it has them, and for a delivery the slot's receiver; a send's v and a move's p are not touched.
 use mathlib.Core.Bool.{Bool, true, false, not, cond, _&&_, _||_}
 use mathlib.Core.List.{List, [], _∷_, _++_}
 use Prim.Native.Nat.{ℕ}
@@ -15,7 +15,7 @@ pub data Spot : Type 0 where
   theUnit : ℕ → Spot
   theSlot : ℕ → Spot
 
--- what letters name, by where each must lie
+-- what letters name, by where each lies
 abbrev pub spotAt : Place → ℕ → Spot
 spotAt amongUnits i = theUnit i
 spotAt amongSlots j = theSlot j

@@ -62,6 +62,12 @@ change-at-requires c κs =
     let d = c .before .before .before .before in
     λ e. place-weights (view (start d .args .t1)) (start d .args .r) (sound-claims (start d .args .t1) (sym (start d .pre) ∙ e) .sheet) (d .unit-place .result) (d .before .before .slot-place .result) (d .before .before .slot-place .ensures) (d .unit-place .ensures)
 
+mul-b : tie.Need-mul-b
+mul-b c = search needs
+
+element-write-b : tie.Need-element-write-b
+element-write-b c = search needs
+
 mul-unit : tie.Need-mul-unit
 mul-unit c = search needs
 
@@ -74,17 +80,17 @@ mul-slot c = search needs
 element-set-from-slot : tie.Need-element-set-from-slot
 element-set-from-slot c = search needs
 
-mul-b : tie.Need-mul-b
-mul-b c = search needs
-
-element-write-b : tie.Need-element-write-b
-element-write-b c = search needs
-
 mul-b-2 : tie.Need-mul-b-2
 mul-b-2 c = search needs
 
 element-write-b-2 : tie.Need-element-write-b-2
 element-write-b-2 c = search needs
+
+mul-b-3 : tie.Need-mul-b-3
+mul-b-3 c = search needs
+
+element-write-b-3 : tie.Need-element-write-b-3
+element-write-b-3 c = search needs
 
 drops-rounds-requires : tie.Need-drops-rounds-requires
 drops-rounds-requires c κs = search needs
@@ -132,14 +138,16 @@ acted-spec =
     mul-change-at
     element-copy-out-change-at
     change-at-requires
+    mul-b
+    element-write-b
     mul-unit
     element-set-from-unit
     mul-slot
     element-set-from-slot
-    mul-b
-    element-write-b
     mul-b-2
     element-write-b-2
+    mul-b-3
+    element-write-b-3
     drops-rounds-requires
     no-round-requires
     returns

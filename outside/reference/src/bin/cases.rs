@@ -92,9 +92,9 @@
 //!
 //! # runs
 //!
-//! The run over the first steps of the list start 0, kind 8, send 0 1 0, kind
-//! 65535, whose other fields are 0. The buffer is the first part of five
-//! entries that all are 99 before the run.
+//! The run over the first steps of the list start 0, kind 8 (a move, which 47
+//! refuses for unit 0), send 0 1 0, kind 65535, whose other fields are 0. The
+//! buffer is the first part of five entries that all are 99 before the run.
 //!
 //! Columns:
 //! 1. index

@@ -15,8 +15,8 @@ empty-fits-requires c κs = search needs
 returns : tie.Need-returns
 returns c =
     let at = c .before .before in
-    let a = at .before .before .args in
-    c .empty-fits .ensures ∙ empty-row (a .n) (a .m) (a .parents .now) (a .j) (a .y) (sym (at .is-empty .ensures) ∙ c .before .if1 .taken)
+    let a = at .before .args in
+    c .empty-fits .ensures ∙ empty-row (a .n) (a .m) (a .j) (a .y) (sym (at .is-empty .ensures) ∙ c .before .if1 .taken)
 
 returns-2 : tie.Need-returns-2
 returns-2 c = rw (le-ltb _ _ (c .if2 .taken), sym (c .before .before .is-empty .ensures) ∙ c .before .if1 .left)

@@ -27,10 +27,10 @@ use Rattle.board.proofs.soundness.is_sound.Statement.{statement}
 use Rattle.board.proofs.soundness.is_sound.Tie as tie
 
 abbrev Inv-loop : tie.InvT-loop
-Inv-loop b ps left₀ work₀ pending₀ j₀ left work pending j = SlotsSeen (view b) left work pending j
+Inv-loop b left₀ work₀ pending₀ j₀ left work pending j = SlotsSeen (view b) left work pending j
 
 abbrev μ-loop : tie.MeasureT-loop
-μ-loop b ps left₀ work₀ pending₀ j₀ left work pending j = 256 - j
+μ-loop b left₀ work₀ pending₀ j₀ left work pending j = 256 - j
 
 abbrev Inv-loop2 : tie.InvT-loop2
 Inv-loop2 b left₀ work pending i₀ left i = UnitsSeen (view b) pending left i
@@ -40,7 +40,7 @@ abbrev μ-loop2 : tie.MeasureT-loop2
 
 -- from the head of each loop back to the start, to the board and to its lengths
 abbrev start : tie.At-loop Inv-loop μ-loop Inv-loop2 μ-loop2 → tie.Start Inv-loop μ-loop Inv-loop2 μ-loop2
-start h = h .before .before .before .before
+start h = h .before .before .before
 
 abbrev board : tie.At-loop Inv-loop μ-loop Inv-loop2 μ-loop2 → Board
 board h = start h .args .t1
@@ -64,11 +64,11 @@ returns c =
     unsound b (λ s. denied (atMost (b .debt) ceiling ∷ sizes (view b)) (sym (ranges-tested (c .before)) ∙ not-true _ (c .if1 .taken)) (s .sheet .s5-s6-debt .1 .0, s .sheet .s1-sizes))
 
 loop-holds : tie.Need-loop-holds Inv-loop μ-loop Inv-loop2 μ-loop2
-loop-holds c = none-seen (view (c .before .before .before .args .t1))
+loop-holds c = none-seen (view (c .before .before .args .t1))
 
 -- ---- a turn over the slots
 abbrev at-slot : tie.After-slot-fits Inv-loop μ-loop Inv-loop2 μ-loop2 → tie.At-loop Inv-loop μ-loop Inv-loop2 μ-loop2
-at-slot c = c .before .before .before .before
+at-slot c = c .before .before .before
 
 -- what a sound board says of the slot
 slot-asked : (c : tie.After-slot-fits Inv-loop μ-loop Inv-loop2 μ-loop2) → SoundSheet (view (board (at-slot c))) → Claims (slotFacts (view (board (at-slot c))) (at-slot c .loop .left) (at-slot c .loop .j))
@@ -79,9 +79,6 @@ mul-y c = search needs
 
 element-copy-out-y : tie.Need-element-copy-out-y Inv-loop μ-loop Inv-loop2 μ-loop2
 element-copy-out-y c = search needs
-
-slice-aggregate-slot-fits : tie.Need-slice-aggregate-slot-fits Inv-loop μ-loop Inv-loop2 μ-loop2
-slice-aggregate-slot-fits c = search needs
 
 slot-fits-requires : tie.Need-slot-fits-requires Inv-loop μ-loop Inv-loop2 μ-loop2
 slot-fits-requires c κs = search needs
@@ -155,7 +152,7 @@ loop2-holds : tie.Need-loop2-holds Inv-loop μ-loop Inv-loop2 μ-loop2
 loop2-holds c =
     let at = c .before in
     let b : Board = board at in
-    let fits = at .before .before in
+    let fits = at .before in
     no-unit-seen (view b) (at .loop .left) (at .loop .work) (at .loop .pending) (claims (atMost (b .debt) ceiling ∷ sizes (view b)) (sym (ranges-tested (fits .before)) ∙ not-false _ (fits .if1 .left)))
     (slot-laws.all-seen (view b) (lengths at) (at .loop .left) (at .loop .work) (at .loop .pending) (at .loop .j) (at .loop .inv) (omega arith))
 
@@ -255,7 +252,6 @@ is-sound-spec =
     loop-holds
     mul-y
     element-copy-out-y
-    slice-aggregate-slot-fits
     slot-fits-requires
     returns-2
     returns-3

@@ -19,9 +19,12 @@ returns-3 : tie.Need-returns-3
 returns-3 c = ⊎-elim (λ w. rw w) (λ w. rw w) (c .match .keys3)
 
 returns-4 : tie.Need-returns-4
-returns-4 c =
+returns-4 c = rw (c .match .keys4)
+
+returns-5 : tie.Need-returns-5
+returns-5 c =
     let n = c .match .rest in
-    by-others (λ k. eqb (c .before .args .count) 2 ≡ test (rightCount k (c .before .args .count))) refl refl refl refl (c .before .args .word) (omega (arith, n .0 .0 .1)) (c .before .pre) (n .0 .1) (n .1)
+    by-others (λ k. eqb (c .before .args .count) 2 ≡ test (rightCount k (c .before .args .count))) refl refl refl refl (c .before .args .word) (omega (arith, n .0 .0 .0 .1)) (c .before .pre) (n .0 .0 .1) (n .0 .1) (n .1)
 
 pub fits-count-spec : {M : Type 1} → statement M
-fits-count-spec = tie.close (tie.spec returns returns-2 returns-3 returns-4)
+fits-count-spec = tie.close (tie.spec returns returns-2 returns-3 returns-4 returns-5)

@@ -23,15 +23,19 @@ returns-6 : tie.Need-returns-6
 returns-6 c = rw (c .before .before .before .before .before .match .keys6) (c .before .before .put6 .ensures)
 
 returns-7 : tie.Need-returns-7
-returns-7 c =
-    let n = c .before .before .before .before .before .match .rest in
+returns-7 c = rw (c .before .before .before .before .before .match .keys7) (c .before .before .put7 .ensures)
+
+returns-8 : tie.Need-returns-8
+returns-8 c =
     let a = c .before .before .before .before .before .before .before in
-    rw (last-kind (a .args .kind) (a .pre .0) (a .pre .1) (n .0 .0 .0 .0 .0 .1) (n .0 .0 .0 .0 .1) (n .0 .0 .0 .1) (n .0 .0 .1) (n .0 .1) (n .1)) (c .before .before .put7 .ensures)
+    rw (last-kind (a .args .kind) (a .pre .0) (a .pre .1) (c .before .before .before .before .before .match .rest)) (c .before .before .put8 .ensures)
 
 pub put-word-spec : {M : Type 1} → statement M
 put-word-spec =
     tie.close
     (tie.spec
+    (λ c. search needs)
+    (λ c κs. search needs)
     (λ c. search needs)
     (λ c κs. search needs)
     (λ c. search needs)
@@ -59,4 +63,6 @@ put-word-spec =
     (λ c. search needs)
     returns-6
     (λ c. search needs)
-    returns-7)
+    returns-7
+    (λ c. search needs)
+    returns-8)

@@ -57,9 +57,15 @@ left-8 c = passed _ _ _ (c .before .same8 .ensures) 7 (left-7 (c .before .before
 returns-8 : tie.Need-returns-8
 returns-8 c = found _ _ _ (c .before .same8 .ensures) 7 (left-7 (c .before .before .before)) (c .if8 .taken)
 
+left-9 : (c : tie.Else9) → wordNumber (c .before .before .before .before .before .before .before .before .before .before .before .before .before .before .before .before .before .before .before .before .before .before .before .before .before .before .before .before .args .w .now) ≡ 9 + placeOf (c .before .before .before .before .before .before .before .before .before .before .before .before .before .before .before .before .before .before .before .before .before .before .before .before .before .before .before .before .args .w .now) (drop 9 words)
+left-9 c = passed _ _ _ (c .before .same9 .ensures) 8 (left-8 (c .before .before .before)) (c .if9 .left)
+
 returns-9 : tie.Need-returns-9
+returns-9 c = found _ _ _ (c .before .same9 .ensures) 8 (left-8 (c .before .before .before)) (c .if9 .taken)
+
+returns-10 : tie.Need-returns-10
 unfolding placeOf
-returns-9 c = sym (left-8 c)
+returns-10 c = sym (left-9 c)
 
 pub word-number-spec : {M : Type 1} → statement M
 word-number-spec =
@@ -90,4 +96,7 @@ word-number-spec =
     (λ c κs. search needs)
     returns-8
     (λ c. search needs)
-    returns-9)
+    (λ c κs. search needs)
+    returns-9
+    (λ c. search needs)
+    returns-10)

@@ -1,4 +1,4 @@
--- `is_kind` meets its contract: the kinds 1 to 7, and no other.
+-- `is_kind` meets its contract: the kinds 1 to 8, and no other.
 use mathlib.Core.Path.{sym}
 use native.Mathlib.Omega.{arith}
 use Rattle.script.proofs.KindLaws.{unknown-zero, known-test}

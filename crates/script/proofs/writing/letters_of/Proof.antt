@@ -19,10 +19,13 @@ returns-3 : tie.Need-returns-3
 returns-3 c = (omega arith, rw (c .match .keys3))
 
 returns-4 : tie.Need-returns-4
-returns-4 c =
+returns-4 c = (omega arith, rw (c .match .keys4))
+
+returns-5 : tie.Need-returns-5
+returns-5 c =
     let r = c .before .args .r in
     let n = c .match .rest in
-    (omega arith, by-others (λ k. (k ≡ 4 → ⊥) → r .unit ∷ [] ≡ lettersOf r (actionOf k)) (λ m. refl) (λ m. absurd (m refl)) (λ m. refl) (λ m. refl) (r .kind) (c .before .pre .0) (c .before .pre .1) (n .0 .0 .1) (n .0 .1) (n .1))
+    (omega arith, by-others (λ k. (k ≡ 4 → ⊥) → r .unit ∷ [] ≡ lettersOf r (actionOf k)) (λ m. refl) (λ m. absurd (m refl)) (λ m. refl) (λ m. refl) (r .kind) (c .before .pre .0) (c .before .pre .1) (n .0 .0 .0 .1) (n .0 .0 .1) (n .1) (n .0 .1))
 
 pub letters-of-spec : {M : Type 1} → statement M
-letters-of-spec = tie.close (tie.spec returns returns-2 returns-3 returns-4)
+letters-of-spec = tie.close (tie.spec returns returns-2 returns-3 returns-4 returns-5)

@@ -157,6 +157,12 @@ accepted-requires c κs = search needs
 add-zeros : tie.Need-add-zeros Inv-loop μ-loop
 add-zeros c = omega (arith, c .accepted .ensures, one-at-most (eqb (c .before .change-at .result .answer) 0))
 
+mul-b : tie.Need-mul-b Inv-loop μ-loop
+mul-b c = search needs
+
+element-write-b : tie.Need-element-write-b Inv-loop μ-loop
+element-write-b c = search needs
+
 mul-unit : tie.Need-mul-unit Inv-loop μ-loop
 mul-unit c = search needs
 
@@ -169,17 +175,17 @@ mul-slot c = search needs
 element-set-from-slot : tie.Need-element-set-from-slot Inv-loop μ-loop
 element-set-from-slot c = search needs
 
-mul-b : tie.Need-mul-b Inv-loop μ-loop
-mul-b c = search needs
-
-element-write-b : tie.Need-element-write-b Inv-loop μ-loop
-element-write-b c = search needs
-
 mul-b-2 : tie.Need-mul-b-2 Inv-loop μ-loop
 mul-b-2 c = search needs
 
 element-write-b-2 : tie.Need-element-write-b-2 Inv-loop μ-loop
 element-write-b-2 c = search needs
+
+mul-b-3 : tie.Need-mul-b-3 Inv-loop μ-loop
+mul-b-3 c = search needs
+
+element-write-b-3 : tie.Need-element-write-b-3 Inv-loop μ-loop
+element-write-b-3 c = search needs
 
 drops-rounds-requires : tie.Need-drops-rounds-requires Inv-loop μ-loop
 drops-rounds-requires c κs = search needs
@@ -274,14 +280,16 @@ run-batch-spec =
     array-write-debts
     accepted-requires
     add-zeros
+    mul-b
+    element-write-b
     mul-unit
     element-set-from-unit
     mul-slot
     element-set-from-slot
-    mul-b
-    element-write-b
     mul-b-2
     element-write-b-2
+    mul-b-3
+    element-write-b-3
     drops-rounds-requires
     no-round-requires
     add-i

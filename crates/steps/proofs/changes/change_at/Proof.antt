@@ -52,8 +52,8 @@ returns-2 c =
     let g = d .before .args in
     rw (not-false (g .sound) (d .if1 .left))
     (c .change-of .ensures
-    ∙ ap (changeOf (e .result) (g .x) (g .y) (g .debt) (g .k)) (n .ensures ∙ ap (countedUp (g .k) (g .y)) (a .ensures))
-    ∙ ap (λ (f : Effect). changeOf f (g .x) (g .y) (g .debt) (g .k) (countedUp (g .k) (g .y) (actionOf (g .r .kind))))
+    ∙ ap (changeOf (e .result) (g .x) (g .p) (g .y) (g .debt) (g .k)) (n .ensures ∙ ap (countedUp (g .k) (g .y)) (a .ensures))
+    ∙ ap (λ (f : Effect). changeOf f (g .x) (g .p) (g .y) (g .debt) (g .k) (countedUp (g .k) (g .y) (actionOf (g .r .kind))))
     (placed-effect (g .n) (g .m) (g .r) (a .result) (j .result) (rule .record-rule .result) (e .result) (j .ensures) (e .ensures)
     ∙ ap (judge Refused (placeChecks (g .n) (g .m) (g .r) (a .result))) (rule .record-rule .ensures)
     ∙ ap (λ (b : Action). judge Refused (placeChecks (g .n) (g .m) (g .r) b) (recordRule (g .debt) (g .delay) (g .r) (g .x) (g .p) (g .y) (g .k .created) b)) (a .ensures)))

@@ -22,7 +22,7 @@ returns-3 c =
     rw (c .before .before .enum-told3 .given .1) (counts-same _ _ _ _ (omega (arith, s .good)) (c .done-more .ensures ∙ ap (λ (t : Bool). s .args .k .processed + oneIf t) (c .before .is-work .ensures)))
 
 returns-4 : tie.Need-returns-4
-returns-4 c = counts-stay (c .before .args .k) (c .before .args .y) (c .before .args .a) (0 ∷ 3 ∷ 5 ∷ 6 ∷ 7 ∷ []) tt tt tt (c .match .keys4) (omega (arith, c .before .good))
+returns-4 c = counts-stay (c .before .args .k) (c .before .args .y) (c .before .args .a) (0 ∷ 3 ∷ 5 ∷ 6 ∷ 7 ∷ 8 ∷ []) tt tt tt (c .match .keys4) (omega (arith, c .before .good))
 
 pub counted-spec : {M : Type 1} → statement M
 counted-spec =

@@ -27,10 +27,14 @@ returns-7 c = simp (c .enum-told7 .given .1)
 returns-8 : tie.Need-returns-8
 returns-8 c = simp (c .enum-told8 .given .1)
 
+returns-9 : tie.Need-returns-9
+returns-9 c = simp (c .enum-told9 .given .1)
+
 pub unit-of-spec : {M : Type 1} → statement M
 unit-of-spec =
     tie.close
     (tie.spec
+    (λ c. search needs)
     (λ c. search needs)
     (λ c. search needs)
     (λ c. search needs)
@@ -46,4 +50,5 @@ unit-of-spec =
     returns-5
     returns-6
     returns-7
-    returns-8)
+    returns-8
+    returns-9)

@@ -49,6 +49,9 @@ enum-told-8 c = search needs
 release-requires : tie.Need-release-requires
 release-requires c κs = search needs
 
+enum-told-9 : tie.Need-enum-told-9
+enum-told-9 c = search needs
+
 returns : tie.Need-returns
 unfolding recordRule
 returns c = simp (c .enum-told .given .1)
@@ -81,6 +84,10 @@ returns-8 : tie.Need-returns-8
 unfolding recordRule
 returns-8 c = simp (c .release .ensures, c .before .enum-told8 .given .1)
 
+returns-9 : tie.Need-returns-9
+unfolding recordRule
+returns-9 c = simp (c .enum-told9 .given .1)
+
 pub record-rule-spec : {M : Type 1} → statement M
 record-rule-spec =
     tie.close
@@ -100,6 +107,7 @@ record-rule-spec =
     tick-requires
     enum-told-8
     release-requires
+    enum-told-9
     returns
     returns-2
     returns-3
@@ -107,4 +115,5 @@ record-rule-spec =
     returns-5
     returns-6
     returns-7
-    returns-8)
+    returns-8
+    returns-9)
