@@ -1,4 +1,5 @@
 // Calls on a whole weight board, by value: is it sound, a fresh one, the depth of a unit, is the sheet complete.
+mod busy;
 mod counts;
 mod depths;
 mod opening;
@@ -16,6 +17,8 @@ ghost use Rattle.rules.specs.Sound.{sound};
 ghost use Rattle.rules.specs.Finished.{verdict, Complete};
 ghost use Rattle.rules.specs.Guarantee.{Carries};
 ghost use Rattle.rules.specs.declared.Verdict.the-variants.{Finished};
+pub use busy::some_active;
+pub use busy::some_work;
 pub use depths::depth_of;
 pub use opening::blank;
 pub use opening::no_round;

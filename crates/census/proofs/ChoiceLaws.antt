@@ -17,7 +17,7 @@ use Rattle.rules.proofs.JudgeLaws.{number-claims}
 use Rattle.rules.proofs.LetterLaws.{record-kind}
 use Rattle.rules.proofs.Sheets.Accepted.{place-numbered}
 use Rattle.census.specs.Choices.{sevenKinds, ranges, numbersFrom, forEach, stepsIn, choices}
-use Rattle.census.specs.Sorts.{howMany, some}
+use Rattle.rules.specs.Busy.{howMany, some}
 use Rattle.census.specs.Claims.{ChoicesNumber, InRange, sameStep, times, ChoicesExact}
 use Rattle.census.proofs.ForEachLaws.{sum-parts, length-sum}
 use Rattle.census.proofs.RangeLaws.{sizeOf, steps-in-length}

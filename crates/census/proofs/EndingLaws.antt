@@ -18,7 +18,7 @@ use Rattle.rules.specs.declared.StepRecord.{StepRecord}
 use Rattle.rules.proofs.SumLaws.{sum-plus, sum-most}
 use Rattle.rules.proofs.Views.{refused-keeps}
 use Rattle.census.specs.Choices.{forEach, choices, lists}
-use Rattle.census.specs.Sorts.{howMany}
+use Rattle.rules.specs.Busy.{howMany}
 use Rattle.census.specs.Counting.{ending}
 use Rattle.census.specs.Claims.{CountsRecur}
 use Rattle.census.proofs.ForEachLaws.{sum-same, sum-parts, length-for-each}

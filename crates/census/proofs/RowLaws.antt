@@ -25,7 +25,8 @@ use Rattle.rules.specs.declared.Board.{Board}
 use Rattle.rules.specs.declared.StepRecord.{StepRecord}
 use Rattle.rules.specs.declared.Outcome.{Outcome}
 use Rattle.census.specs.Choices.{numbersFrom, forEach, stepsIn, choices}
-use Rattle.census.specs.Sorts.{howMany, isFinished, isBusy, isOther}
+use Rattle.rules.specs.Busy.{howMany, isBusy}
+use Rattle.census.specs.Sorts.{isFinished, isOther}
 use Rattle.census.specs.Counting.{ending, endsFrom}
 use Rattle.census.specs.Claims.{ChoicesNumber, NoSteps, OneStep}
 use Rattle.census.specs.declared.Ends.{Ends}

@@ -2,9 +2,9 @@
 use mathlib.Core.Path.{_≡_, refl, sym, ap, _∙_}
 use mathlib.Core.Bool.{Bool, true, false, not, cond, _&&_, _||_}
 use mathlib.Core.List.{List, [], _∷_}
-use Prim.Native.Nat.{ℕ, suc, _+_, _^_, _≤_, _<_}
+use Prim.Native.Nat.{ℕ, _+_, _^_}
 use native.Mathlib.Omega.{arith}
-use lib.ListN.{length, getD}
+use lib.ListN.{length}
 use lib.Dec.{eqb}
 use borrow.Author.Tests.{eq-eqb, ne-eqb}
 use Rattle.rules.specs.Facts.{oneIf, sumOf}
@@ -17,26 +17,16 @@ use Rattle.rules.specs.declared.StepRecord.{StepRecord}
 use Rattle.rules.specs.declared.Verdict.{Verdict}
 use Rattle.rules.specs.declared.Verdict.the-variants.{Working, Finished, Refused}
 use Rattle.rules.proofs.FactLaws.{true-not-false}
-use Rattle.rules.proofs.SumLaws.{sum-none, sum-taken, sum-front}
+use Rattle.rules.proofs.BusyLaws.{none-such}
 use Rattle.rules.proofs.FinishedLaws.{verdict-sound, finished-complete}
 use Rattle.rules.proofs.Projection.{list-keeps-sound}
 use Rattle.census.specs.Choices.{lists}
-use Rattle.census.specs.Sorts.{howMany, some, saysFinished, isFinished, isBusy, isOther}
+use Rattle.rules.specs.Busy.{howMany, some, isBusy}
+use Rattle.census.specs.Sorts.{saysFinished, isFinished, isOther}
 use Rattle.census.specs.Counting.{ending, endsFrom}
 use Rattle.census.specs.Shares.{allEnds}
 use Rattle.census.proofs.ForEachLaws.{sum-same, length-sum}
 use Rattle.census.proofs.EndingLaws.{choicesOn, length-lists, ending-none}
-
-pub none-such : {A : Type 0} (is : A → Bool) (xs : List A) (d : A) → ((i : ℕ) → i < length xs → is (getD xs i d) ≡ false) → some is xs ≡ false
-unfolding howMany
-none-such is xs d h = ap (λ (k : ℕ). not (eqb k 0)) (sum-none (λ i x. oneIf (is x)) xs d (λ i l. ap oneIf (h i l)))
-
-pub some-such : {A : Type 0} (is : A → Bool) (xs : List A) (d : A) (i : ℕ) → i < length xs → is (getD xs i d) ≡ true → some is xs ≡ true
-unfolding howMany
-some-such is xs d i l e =
-    let one : oneIf (is (getD xs i d)) ≡ 1 = ap oneIf e in
-    let above : 1 ≤ sumOf (λ j x. oneIf (is x)) xs = omega (arith, one, sum-taken (λ j x. oneIf (is x)) xs i d l, sum-front (λ j x. oneIf (is x)) xs (suc i)) in
-    ap not (ne-eqb (sumOf (λ j x. oneIf (is x)) xs) 0 (λ z. omega (arith, above, z)))
 
 complete-not-busy : (b : Board) → Complete b → isBusy b ≡ false
 unfolding isBusy
@@ -74,10 +64,6 @@ sort-finished b h z = let f : isFinished b ≡ true = told-finished b h ∙ eq-e
 
 pub sort-unfinished : (b : Board) → Sound b → (b .debt ≡ 0 → ⊥) → (w : Bool) → isBusy b ≡ w → endsFrom b 0 ≡ record { finished = 0; busy = oneIf w; other = oneIf (not w) }
 sort-unfinished b h n w q = sort-by b false w (told-finished b h ∙ ne-eqb (b .debt) 0 n) q
-
-pub busy-by : (b : Board) {s t : Bool} → some (λ u. isActive (u .state)) (b .units) ≡ s → some (λ y. isWork (y .kind)) (b .slots) ≡ t → isBusy b ≡ (s || t)
-unfolding isBusy
-busy-by b p q = λ i. p i || q i
 
 pub one-sort : (b : Board) → Sound b → oneIf (isFinished b) + oneIf (isBusy b) + oneIf (isOther b) ≡ 1
 one-sort b h = by-tests (isFinished b) (isBusy b) refl refl

@@ -16,7 +16,8 @@ use Rattle.rules.specs.declared.StepRecord.{StepRecord}
 use Rattle.rules.proofs.SumLaws.{sum-taken, sum-front}
 use Rattle.rules.proofs.EventSound.{step-keeps-sound}
 use Rattle.census.specs.Choices.{choiceNumber}
-use Rattle.census.specs.Sorts.{howMany, isFinished, isBusy, isOther}
+use Rattle.rules.specs.Busy.{howMany, isBusy}
+use Rattle.census.specs.Sorts.{isFinished, isOther}
 use Rattle.census.specs.Counting.{ending, endsFrom}
 use Rattle.census.specs.Claims.{ChoicesNumber, CountsRecur}
 use Rattle.steps.specs.NoStep.{noStep}

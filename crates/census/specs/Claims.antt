@@ -14,7 +14,7 @@ use Rattle.rules.specs.Lists.{accepted}
 use Rattle.rules.specs.declared.Board.{Board}
 use Rattle.rules.specs.declared.StepRecord.{StepRecord}
 use Rattle.census.specs.Choices.{sevenKinds, choices, choiceNumber}
-use Rattle.census.specs.Sorts.{howMany, some}
+use Rattle.rules.specs.Busy.{howMany, some}
 use Rattle.census.specs.Counting.{ending, endsFrom, census}
 use Rattle.census.specs.declared.Counted.the-variants.{Refused}
 use Rattle.census.specs.Shares.{allEnds}

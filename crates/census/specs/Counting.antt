@@ -8,7 +8,8 @@ use Rattle.rules.specs.Opening.{openingChecks, fresh}
 use Rattle.rules.specs.Lists.{after}
 use Rattle.rules.specs.declared.Board.{Board}
 use Rattle.census.specs.Choices.{choices, lists}
-use Rattle.census.specs.Sorts.{howMany, isFinished, isBusy, isOther}
+use Rattle.rules.specs.Busy.{howMany, isBusy}
+use Rattle.census.specs.Sorts.{isFinished, isOther}
 use Rattle.census.specs.declared.Ends.{Ends}
 use Rattle.census.specs.declared.Counted.{Counted}
 use Rattle.census.specs.declared.Counted.the-variants.{Lists, Refused}

@@ -35,6 +35,7 @@ use Rattle.texts.specs.Texts.{lineText, boardText}
 use Rattle.listing.specs.Scripts.{lineOutcome, laterOutcome}
 use Rattle.listing.specs.Bounds.{longestLine}
 use Rattle.listing.specs.Parts.{Piece, nextNumber, laterPiece, piece, before, partWithin}
+use Rattle.listing.specs.Endings.{boardAfter}
 use Rattle.listing.specs.Batches.{linesAt, placeAfter, recordOf, recordsOf, refusalsOf}
 use Rattle.listing.proofs.StartLaws.{reading-number}
 use Rattle.listing.proofs.PieceLaws.{laterCursor, outcomeAt}
@@ -42,11 +43,7 @@ use Rattle.listing.proofs.PartLaws.{none}
 use Rattle.listing.proofs.LengthLaws.{outcome-sound, later-most, number-fits}
 use Rattle.listing.proofs.RowLaws.{rowsText}
 
--- ---- the board, the line number and the text after a batch of lines
-unfoldable pub boardAfter : Board → List (List ℕ) → Board
-boardAfter b [] = b
-boardAfter b (l ∷ ls) = boardAfter (laterOutcome b l .board) ls
-
+-- ---- the line number after a batch of lines, and their text
 unfoldable pub numberAfter : ℕ → List (List ℕ) → ℕ
 numberAfter n [] = n
 numberAfter n (l ∷ ls) = numberAfter (nextNumber n) ls

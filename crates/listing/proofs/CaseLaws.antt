@@ -12,7 +12,6 @@ use borrow.Author.Tests.{le-leb, lt-leb, not-true}
 use Rattle.rules.specs.Sound.{sound}
 use Rattle.rules.proofs.FactLaws.{true-or-false}
 use Rattle.rules.specs.Finished.{verdict}
-use Rattle.rules.proofs.SoundLaws.{sound-tested}
 use Rattle.rules.specs.declared.Outcome.{Outcome}
 use Rattle.rules.specs.declared.Verdict.{Verdict}
 use Rattle.placing.specs.Placing.{wrote, written}
@@ -23,7 +22,7 @@ use Rattle.listing.specs.Scripts.{startOutcome}
 use Rattle.listing.specs.Parts.{Piece, ended, firstPiece, laterPiece, piece, stops, before, partWithin, part, partOf, partBuffer}
 use Rattle.listing.specs.Turns.{bytesOf, startPlace, cursorOf, Advances}
 use Rattle.texts.specs.Texts.{heading, lineText, boardText}
-use Rattle.listing.proofs.StartLaws.{Started, starts, startCursor, start-text, start-next, start-sound}
+use Rattle.listing.proofs.StartLaws.{startCursor, start-text, start-next, start-asked}
 use Rattle.listing.proofs.PartLaws.{none, part-stopped, empty-stops, part-then}
 use Rattle.listing.specs.declared.Cursor.{Cursor}
 use Rattle.listing.specs.declared.Part.{Part}
@@ -209,7 +208,7 @@ module _ (c : Cursor) (s out : List ℕ) (begun : c .begun ≡ false) {o : Outco
     -- what the listing of the later lines asks
     pub start-asks : (at < length s → sound (o .board) ≡ true) × (n ≤ length mid)
     start-asks = (
-      λ m. sound-tested (o .board) (start-sound s o (subst (Started s) (sym is) (starts s)) (omega (arith, place, m))),
+      start-asked s is place,
       omega (arith, length-is, it-fits, ap length mid-is ∙ length-sets out 0 (firstPiece s .text)),
     )
 

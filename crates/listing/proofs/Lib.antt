@@ -13,4 +13,5 @@ pub mod FrontLaws
 pub mod CallLaws
 pub mod PartLaws
 pub mod BatchLaws
+pub mod EndingLaws
 pub mod WholeLaws

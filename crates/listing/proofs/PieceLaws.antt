@@ -102,7 +102,7 @@ first-begun : (s : List ℕ) → firstPiece s .next .begun ≡ true
 first-begun s = ap (λ (c : Cursor). c .begun) (start-next s)
 
 -- a line takes at least a byte of the script
-past-fewer : (at : ℕ) (s : List ℕ) → at < length s → suc (length s - behind at s) ≤ length s - at
+pub past-fewer : (at : ℕ) (s : List ℕ) → at < length s → suc (length s - behind at s) ≤ length s - at
 past-fewer at s l = by-rest (drop at s) refl
   where
     by-rest : (t : List ℕ) → drop at s ≡ t → suc (length s - behind at s) ≤ length s - at

@@ -6,10 +6,11 @@ use Prim.Native.Nat.{ℕ, zero, suc, _≤_, _<_}
 use native.Mathlib.Omega.{arith}
 use lib.ListN.{length}
 use borrow.Author.Tests.{eq-eqb, ne-eqb, le-leb, lt-leb}
-use Rattle.rules.specs.Sound.{Sound}
+use Rattle.rules.specs.Sound.{Sound, sound}
 use Rattle.rules.specs.Opening.{openingChecks, fresh, blankBoard, opening, refusedBy}
 use Rattle.rules.specs.Finished.{verdict}
 use Rattle.rules.proofs.FactLaws.{judge-passed}
+use Rattle.rules.proofs.SoundLaws.{sound-tested}
 use Rattle.rules.proofs.JudgeLaws.{Number, Judged, passed, failed, judged}
 use Rattle.rules.proofs.FreshSound.{opening-fresh, blank-unsound}
 use Rattle.rules.proofs.Theorem.{opening-sound}
@@ -147,3 +148,7 @@ start-sound s o (opened l e h d) m = h
 start-sound s o (refused k p e) m =
     let z : startPlace s (o .answer) ≡ length s = ap (λ (x : Outcome). startPlace s (x .answer)) e ∙ ap (λ (t : Bool). cond t (behind 0 s) (length s)) (ne-eqb k 0 (λ y. omega (arith, p, y))) in
     absurd (omega (arith, z, m))
+
+-- the same of the script itself, as the calls that go on from there ask for it
+pub start-asked : (s : List ℕ) {o : Outcome} → o ≡ startOutcome s → {at : ℕ} → at ≡ startPlace s (o .answer) → at < length s → sound (o .board) ≡ true
+start-asked s {o} is place m = sound-tested (o .board) (start-sound s o (subst (Started s) (sym is) (starts s)) (omega (arith, place, m)))

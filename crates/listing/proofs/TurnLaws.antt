@@ -22,6 +22,7 @@ use Rattle.numbers.specs.Lines.{behind}
 use Rattle.texts.specs.Texts.{boardText}
 use Rattle.listing.specs.Bounds.{longestLine}
 use Rattle.listing.specs.Parts.{Piece, nextNumber, laterPiece, piece, before, partWithin}
+use Rattle.listing.specs.Endings.{boardAfter}
 use Rattle.listing.specs.Batches.{linesAt, placeAfter, recordsOf, refusalsOf}
 use Rattle.listing.specs.Turns.{Gathers, Placed, rowsInto, cursorOf, batchSize, Advances}
 use Rattle.listing.proofs.PieceLaws.{laterCursor, outcomeAt}
@@ -68,6 +69,14 @@ unfolding batch
 batch-sound b rs h =
     ap (λ (t : Bool). cond t (batchDone b rs) (record { ran = Refused 30; board = b; answers = padded []; debts = padded [] })) (sound-tested b h)
 
+-- of script lines that were gathered
+module _ (b : Board) (is-sound : Sound b) (g : Gathered) {ls : List (List ℕ)} {at : ℕ} (gathers : Gathers g ls at) {d : Batch} (ran : d ≡ batch b (take (g .count) (g .steps))) where
+  batch-done : d ≡ batchDone b (recordsOf ls)
+  batch-done = ran ∙ ap (batch b) (gathers .steps) ∙ batch-sound b (recordsOf ls) is-sound
+
+  pub batch-leaves : d .board ≡ boardAfter b ls
+  batch-leaves = ap (λ (x : Batch). x .board) batch-done ∙ batch-board b ls is-sound
+
 refusals-length : (ls : List (List ℕ)) → length (refusalsOf ls) ≡ length ls
 unfolding refusalsOf
 refusals-length [] = refl
@@ -113,7 +122,7 @@ module _ (p : Progress) (s out : List ℕ) (is-sound : Sound (p .board)) (inside
 
   module _ (g : Gathered) (gathers : Gathers g (linesOf p s out) (placeAfter (sizeOf p out) (p .at) s)) (d : Batch) (ran : d ≡ batch (p .board) (take (g .count) (g .steps))) where
     done : d ≡ batchDone (p .board) (recordsOf (linesOf p s out))
-    done = ran ∙ ap (batch (p .board)) (gathers .steps) ∙ batch-sound (p .board) (recordsOf (linesOf p s out)) is-sound
+    done = batch-done (p .board) is-sound g gathers ran
 
     rows-are : rowsText (p .line) (take (g .count) (g .refusals)) (d .answers) (d .debts) ≡ textOf p s out
     rows-are =
@@ -177,7 +186,7 @@ module _ (p : Progress) (s out : List ℕ) (is-sound : Sound (p .board)) (inside
             cursor =
                 ap (λ (i : ℕ). laterCursor i (w .line) (d .board)) (gathers .place)
                 ∙ ap (λ (i : ℕ). laterCursor (placeAfter (sizeOf p out) (p .at) s) i (d .board)) (ap (λ (x : Placed). x .line) all)
-                ∙ ap (λ (b : Board). laterCursor (placeAfter (sizeOf p out) (p .at) s) (numberAfter (p .line) (linesOf p s out)) b) (ap (λ (x : Batch). x .board) done ∙ batch-board (p .board) (linesOf p s out) is-sound)
+                ∙ ap (λ (b : Board). laterCursor (placeAfter (sizeOf p out) (p .at) s) (numberAfter (p .line) (linesOf p s out)) b) (batch-leaves (p .board) is-sound g gathers ran)
                 ∙ sym (ap (λ (x : Piece). x .next) is);
             to = ap (λ (x : Placed). x .to) all ∙ ap (λ (x : Piece). p .to + length (x .text)) (sym is);
             buffer = ap (λ (x : Placed). x .left) all ∙ ap (λ (x : Piece). sets out (p .to) (x .text)) (sym is);

@@ -1,6 +1,7 @@
-// The listing of a script, in parts and at once.
+// The listing of a script, in parts and at once; and what a script leaves at its end.
 mod bounds;
 mod cursors;
+mod endings;
 mod gathering;
 mod parts;
 mod rows;
@@ -10,6 +11,7 @@ mod whole;
 
 pub use cursors::beginning;
 pub use cursors::is_ended;
+pub use endings::ending;
 pub use parts::list_part;
 use placing::Wrote;
 use rules::Board;

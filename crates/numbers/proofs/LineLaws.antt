@@ -91,6 +91,17 @@ unfolding linesWithin past
 lines-behind k [] p = refl
 lines-behind k (c ∷ cs) p = lines-enough (suc k) (length cs) (past 10 (c ∷ cs)) (omega (arith, p, past-shorter 10 c cs)) (past-shorter 10 c cs)
 
+-- the same lines as those of the text behind the first, so a text that is not empty is its first line and these
+pub lines-past : (s : List ℕ) → linesOf (past 10 s) ≡ drop 1 (linesOf s)
+unfolding linesWithin past
+lines-past [] = refl
+lines-past (c ∷ cs) = lines-enough (length (past 10 (c ∷ cs))) (length cs) (past 10 (c ∷ cs)) (omega arith) (past-shorter 10 c cs)
+
+pub lines-first : (s : List ℕ) → 1 ≤ length s → linesOf s ≡ upTo 10 s ∷ linesOf (past 10 s)
+unfolding linesWithin
+lines-first [] l = absurd (not-suc-le-zero l)
+lines-first (c ∷ cs) l = ap (λ (ls : List (List ℕ)). upTo 10 (c ∷ cs) ∷ ls) (sym (lines-past (c ∷ cs)))
+
 -- ---- a text each line of which has its byte 10 is its lines, joined
 abbrev joined : List (List ℕ) → List ℕ
 joined [] = []

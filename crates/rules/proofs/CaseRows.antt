@@ -1,13 +1,13 @@
 -- The worked cases hold. On a sound board the test of soundness is true, so a row's steps are computed without it.
 use mathlib.Core.Path.{_≡_, refl, sym, ap, subst, _∙_}
-use mathlib.Core.Bool.{Bool, true, false, not, cond}
+use mathlib.Core.Bool.{Bool, true, false, not, cond, _&&_}
 use mathlib.Core.List.{List, [], _∷_}
 use Prim.Native.Nat.{ℕ, zero, suc, _<_}
 use native.Mathlib.Nat.{le-of-suc-le-suc, not-suc-le-zero}
 use native.Mathlib.Omega.{arith}
 use lib.ListN.{length, List·getD-eq-default}
 use lib.Dec.{eqb}
-use Rattle.rules.specs.Facts.{Fact, equal, holds, fails, Claim, Claims, Each, each, sumOf, sameList, judge}
+use Rattle.rules.specs.Facts.{Fact, equal, holds, fails, Claim, Claims, tests, Each, each, sumOf, sameList, judge}
 use Rattle.rules.specs.Words.{isActive, isWaiting, isWork, blankUnit, blankSlot, ceiling}
 use Rattle.rules.specs.Sheets.Sheet.{unitAt, slotAt}
 use Rattle.rules.specs.Sheets.Sound.{pending, unitsWeight, slotsWeight, total, workUnderWay, sound as soundSheet}
@@ -24,9 +24,10 @@ use Rattle.rules.specs.Lists.{steps, after, answers}
 use Rattle.rules.specs.Sheets.Lists.{undrainedBy}
 use Rattle.rules.specs.Sheets.Finished.{toldFrom}
 use Rattle.rules.specs.Sheets.Drains.{waitingUnits, returnsUnderWay, drainBound as sheetBound}
+use Rattle.rules.specs.Sheets.Longest.{unitsLength, slotsLength, longestLength, journeyWithin, journey, joinOf, longestList}
 use Rattle.rules.specs.Drains.{Quiet, Drain, drainBound}
-use Rattle.rules.specs.Cases.{Row, shares, judges, opens, runs, drains, Drained, Right, AllRight, rows, stuckBoard, Stuck, deliver}
-use Rattle.rules.proofs.FactLaws.{true-not-false, same-is, each-claims, each-at, factBy}
+use Rattle.rules.specs.Cases.{Row, shares, judges, opens, runs, drains, longest, Drained, Longest, Right, AllRight, rows, stuckBoard, Stuck, deliver}
+use Rattle.rules.proofs.FactLaws.{and-left, and-right, true-not-false, claims, same-is, each-claims, each-at, factBy}
 use Rattle.rules.proofs.SoundLaws.{sound-claims, below-or-not}
 use Rattle.rules.proofs.Views.{step-sound}
 use Rattle.rules.proofs.Sheets.Accepted.{AcceptedAs, shown, accepted-as}
@@ -108,6 +109,29 @@ drain-right b rs k h c = record {
   bounds = c .1 .1 .1 .1 .0;
 }
 
+-- ---- a test of two lists of steps, and what it shows
+stepRow : StepRecord → StepRecord → List Fact
+stepRow r q = equal (r .kind) (q .kind) ∷ equal (r .unit) (q .unit) ∷ equal (r .other) (q .other) ∷ equal (r .slot) (q .slot) ∷ []
+
+step-is : (r q : StepRecord) → Claims (stepRow r q) → r ≡ q
+unfolding stepRow
+step-is r q c = rw (c .0, c .1 .0, c .1 .1 .0, c .1 .1 .1 .0)
+
+sameSteps : List StepRecord → List StepRecord → Bool
+sameSteps [] [] = true
+sameSteps [] (q ∷ qs) = false
+sameSteps (r ∷ rs) [] = false
+sameSteps (r ∷ rs) (q ∷ qs) = tests (stepRow r q) && sameSteps rs qs
+
+steps-are : (rs qs : List StepRecord) → sameSteps rs qs ≡ true → rs ≡ qs
+unfolding sameSteps
+steps-are [] [] e = refl
+steps-are [] (q ∷ qs) e = absurd (true-not-false (sym e))
+steps-are (r ∷ rs) [] e = absurd (true-not-false (sym e))
+steps-are (r ∷ rs) (q ∷ qs) e =
+    let t : tests (stepRow r q) ≡ true = and-left (tests (stepRow r q)) (sameSteps rs qs) e in
+    rw (step-is r q (claims (stepRow r q) t), steps-are rs qs (and-right (tests (stepRow r q)) (sameSteps rs qs) e))
+
 -- ---- a test of a row that computes, and what it shows
 tellsBy : Bool → Verdict → Bool
 tellsBy t Working = not t
@@ -133,6 +157,9 @@ rowRow (runs m d ps rs ks v) =
     ∷ holds (tellsBy (eqb (quickAfter (opening m d ps .board) rs .debt) 0) v)
     ∷ []
 rowRow (drains m d ps rs ds k) = equal (opening m d ps .answer) 0 ∷ drainRow (quickAfter (opening m d ps .board) rs) ds k
+rowRow (longest m d ps rs s ds) =
+    let b : Board = quickAfter (opening m d ps .board) rs in
+    equal (opening m d ps .answer) 0 ∷ holds (sameSteps (longestList (view b) s) ds) ∷ equal (longestLength (view b)) (length ds) ∷ []
 
 row-right : (row : Row) → Claims (rowRow row) → Right row
 unfolding rowRow
@@ -151,6 +178,10 @@ row-right (drains m d ps rs ds k) c =
     let h : Sound f = opening-sound m d ps (c .0) .0 in
     let quick = quick-after f rs h in
     (c .0, subst (λ (b : Board). Drained b ds k) (sym quick) (drain-right (quickAfter f rs) ds k (subst Sound quick (list-keeps-sound f rs h)) (c .1)))
+row-right (longest m d ps rs s ds) c =
+    let f : Board = opening m d ps .board in
+    let quick = quick-after f rs (opening-sound m d ps (c .0) .0) in
+    (c .0, subst (λ (b : Board). Longest b s ds) (sym quick) (record { listed = steps-are _ ds (c .1 .0); long = c .1 .1 .0 }))
 
 rows-right : (rs : List Row) → Each (λ i row. rowRow row) rs → AllRight rs
 unfolding Each
@@ -159,7 +190,7 @@ rows-right (row ∷ rs) c = (row-right row (c .0), rows-right rs (c .1))
 
 -- one computed test over the whole table
 pub cases : AllRight rows
-unfolding rows rowRow drainRow idleRow noWorkRow sameList tellsBy each sumOf lowerParents opening fresh blankBoard recordRule effect applied sheetSoundStep soundStep afterAll allAnswers sheetBound waitingUnits returnsUnderWay deepest depth depthWithin
+unfolding rows rowRow drainRow idleRow noWorkRow sameList tellsBy each sumOf lowerParents opening fresh blankBoard recordRule effect applied sheetSoundStep soundStep afterAll allAnswers sheetBound waitingUnits returnsUnderWay deepest depth depthWithin stepRow sameSteps unitsLength slotsLength joinOf journey journeyWithin longestList
 cases = rows-right rows (each-claims (λ i row. rowRow row) rows refl)
 
 -- ---- the stuck board

@@ -1,7 +1,9 @@
 pub mod FactLaws
 pub mod JudgeLaws
 pub mod SumLaws
+pub mod BusyLaws
 pub mod EventLaws
+pub mod JoinLaws
 pub mod Sheets
 pub mod MarkLaws
 pub mod RoundLaws
@@ -13,6 +15,7 @@ pub mod FreshSound
 pub mod FinishedLaws
 pub mod Projection
 pub mod Theorem
+pub mod LongestTheorem
 pub mod VerdictLaws
 pub mod LetterLaws
 pub mod AnswerLaws

@@ -76,7 +76,7 @@ module _ (count : Sheet → StepRecord → ℕ) where
 pub list-keeps-sound : (b : Board) (rs : List StepRecord) → Sound b → Sound (after b rs)
 list-keeps-sound = list-keeps steps Sound step-keeps-sound
 
-steps-after : (b : Board) (rs : List StepRecord) → Sound b → view (after b rs) ≡ sheetAfter (view b) rs
+pub steps-after : (b : Board) (rs : List StepRecord) → Sound b → view (after b rs) ≡ sheetAfter (view b) rs
 unfolding afterAll
 steps-after b [] h = refl
 steps-after b (r ∷ rs) h = steps-after (step b r .board) rs (step-keeps-sound b r h) ∙ ap (λ (c : Sheet). sheetAfter c rs) (step-view b r h)
@@ -86,6 +86,13 @@ unfolding DrainOf
 drain-shown b [] h z = tt
 drain-shown b (r ∷ rs) h z =
     ((sym (answer-shown b r h) ∙ z .0 .0, z .0 .1), subst (λ (c : Sheet). DrainOf sheetSteps undrainedCount c rs) (step-view b r h) (drain-shown (step b r .board) rs (step-keeps-sound b r h) (z .1)))
+
+-- and the other way
+pub drain-of-shown : (b : Board) (rs : List StepRecord) → Sound b → DrainOf sheetSteps undrainedCount (view b) rs → Drain b rs
+unfolding DrainOf
+drain-of-shown b [] h z = tt
+drain-of-shown b (r ∷ rs) h z =
+    ((answer-shown b r h ∙ z .0 .0, z .0 .1), drain-of-shown (step b r .board) rs (step-keeps-sound b r h) (subst (λ (c : Sheet). DrainOf sheetSteps undrainedCount c rs) (sym (step-view b r h)) (z .1)))
 
 longer-shown : (b : Board) → Sound b → Longer sheets (view b) → Longer boards b
 longer-shown b h l = record { way = l .way; there = l .there; fits = l .fits; drains = (answer-shown b _ h ∙ l .drains .0, l .drains .1) }

@@ -15,4 +15,6 @@ pub mod FinishedLaws
 pub mod DepthLaws
 pub mod Potential
 pub mod DrainLaws
+pub mod JourneyLaws
+pub mod LongestLaws
 pub mod Theorem

@@ -10,6 +10,7 @@ use Rattle.rules.specs.Sound.{Sound}
 use Rattle.rules.specs.Opening.{idleBoard, opening}
 use Rattle.rules.specs.Effects.{share, message, recordChecks}
 use Rattle.rules.specs.Sheets.Steps.{changed}
+use Rattle.rules.specs.Sheets.Longest.{longestLength, longestList}
 use Rattle.rules.specs.Rounds.{noRound}
 use Rattle.rules.specs.Boards.{view, boardOf}
 use Rattle.rules.specs.Steps.{step}
@@ -56,19 +57,25 @@ abbrev pub move : ℕ → ℕ → StepRecord
 move u p = asks 8 u p 0
 
 -- ---- a row: a share, the number by which a step is refused on its records (0 for none), an opening's answer, or an accepted opening and a list of steps with their answers and the verdict after
--- them, or with a drain after them and the bound that it has there
+-- them, or with a drain after them and the bound that it has there, or with the longest drain after them by a free slot
 pub data Row : Type 0 where
   shares : ℕ → ℕ → Row
   judges : ℕ → UnitRecord → Slot → ℕ → Action → ℕ → Row
   opens : ℕ → ℕ → List ℕ → ℕ → Row
   runs : ℕ → ℕ → List ℕ → List StepRecord → List ℕ → Verdict → Row
   drains : ℕ → ℕ → List ℕ → List StepRecord → List StepRecord → ℕ → Row
+  longest : ℕ → ℕ → List ℕ → List StepRecord → ℕ → List StepRecord → Row
 
 -- a drain from b, and the bound
 pub record Drained (b : Board) (rs : List StepRecord) (bound : ℕ) : Type 0 where
   pub quiet : Quiet b
   pub drain : Drain b rs
   pub bounds : drainBound b ≡ bound
+
+-- the longest drain from b by the slot s, and its length
+pub record Longest (b : Board) (s : ℕ) (rs : List StepRecord) : Type 0 where
+  pub listed : longestList (view b) s ≡ rs
+  pub long : longestLength (view b) ≡ length rs
 
 -- one that has as many steps as the bound
 abbrev pub attains : ℕ → ℕ → List ℕ → List StepRecord → List StepRecord → Row
@@ -80,6 +87,7 @@ Right (judges debt x y made a k) = judge (λ j. j) (recordChecks debt x y made a
 Right (opens m d ps k) = opening m d ps .answer ≡ k
 Right (runs m d ps rs ks v) = (opening m d ps .answer ≡ 0) × (answers (opening m d ps .board) rs ≡ ks) × (verdict (after (opening m d ps .board) rs) ≡ v)
 Right (drains m d ps rs ds k) = (opening m d ps .answer ≡ 0) × (Drained (after (opening m d ps .board) rs) ds k)
+Right (longest m d ps rs s ds) = (opening m d ps .answer ≡ 0) × (Longest (after (opening m d ps .board) rs) s ds)
 
 abbrev pub AllRight : List Row → Type 0
 AllRight [] = Unit {0}
@@ -123,6 +131,14 @@ toReturn ticks more = start 2 ∷ send 2 1 0 ∷ deliver 0 ∷ rest 1 ∷ rest 2
 abbrev pub fromTwo : List StepRecord
 fromTwo = release 1 0 ∷ tick 1 ∷ release 1 0 ∷ tick 1 ∷ tick 1 ∷ release 1 0 ∷ deliver 0 ∷ []
 
+-- units 1 and 2 rest, having worked at once
+abbrev pub bothRest : List StepRecord
+bothRest = start 1 ∷ send 1 2 0 ∷ deliver 0 ∷ rest 1 ∷ rest 2 ∷ []
+
+-- d = 1, units 2 and 3 under unit 1: unit 3 waits with countdown 0, and the return of unit 2 to unit 1 is under way in slot 0
+abbrev pub returnAndWait : List StepRecord
+returnAndWait = start 2 ∷ send 2 3 0 ∷ deliver 0 ∷ rest 2 ∷ rest 3 ∷ tick 2 ∷ tick 3 ∷ release 2 0 ∷ []
+
 abbrev pub active : ℕ → UnitRecord
 active w = record { weight = w; countdown = 0; state = Active; suspended = false }
 
@@ -158,10 +174,15 @@ rows =
     ∷ runs 1 2 (0 ∷ 1 ∷ []) (toReturn 1 (release 1 0 ∷ tick 1 ∷ tick 1 ∷ release 1 0 ∷ deliver 0 ∷ [])) (allAccepted 10 (40 ∷ 0 ∷ 39 ∷ 0 ∷ 0 ∷ [])) Finished
     ∷ runs 1 2 (0 ∷ 1 ∷ []) (toReturn 2 (release 1 0 ∷ deliver 0 ∷ [])) (allAccepted 13 []) Finished
     ∷ drains 2 1 (0 ∷ []) wholeToRest (tick 1 ∷ release 1 1 ∷ deliver 1 ∷ []) 4
-    ∷ drains 1 1 (0 ∷ 0 ∷ []) (start 1 ∷ send 1 2 0 ∷ deliver 0 ∷ rest 1 ∷ rest 2 ∷ []) (tick 1 ∷ release 1 0 ∷ deliver 0 ∷ tick 2 ∷ release 2 0 ∷ deliver 0 ∷ []) 8
+    ∷ drains 1 1 (0 ∷ 0 ∷ []) bothRest (tick 1 ∷ release 1 0 ∷ deliver 0 ∷ tick 2 ∷ release 2 0 ∷ deliver 0 ∷ []) 8
     ∷ attains 2 0 (0 ∷ 1 ∷ []) (start 2 ∷ rest 2 ∷ release 2 0 ∷ move 2 0 ∷ []) (deliver 0 ∷ release 1 0 ∷ deliver 0 ∷ [])
     ∷ runs 2 0 (0 ∷ 1 ∷ []) (start 2 ∷ move 1 0 ∷ move 0 0 ∷ move 2 2 ∷ move 2 3 ∷ move 3 0 ∷ move 3 3 ∷ move 2 0 ∷ rest 2 ∷ move 2 1 ∷ release 2 0 ∷ move 2 0 ∷ deliver 0 ∷ release 1 1 ∷ deliver 1 ∷ move 1 0 ∷ [])
     (0 ∷ 0 ∷ 47 ∷ 47 ∷ 47 ∷ 13 ∷ 13 ∷ 0 ∷ 0 ∷ 0 ∷ 0 ∷ 0 ∷ 0 ∷ 0 ∷ 0 ∷ 0 ∷ []) Finished
+    ∷ longest 1 0 (0 ∷ 1 ∷ []) bothRest 0 (release 1 0 ∷ deliver 0 ∷ release 2 0 ∷ deliver 0 ∷ release 1 0 ∷ deliver 0 ∷ [])
+    ∷ drains 1 0 (0 ∷ 1 ∷ []) bothRest (release 2 0 ∷ deliver 0 ∷ release 1 0 ∷ deliver 0 ∷ []) 10
+    ∷ longest 2 1 (0 ∷ []) wholeToRest 0 (tick 1 ∷ release 1 0 ∷ deliver 0 ∷ [])
+    ∷ longest 2 1 (0 ∷ 1 ∷ 1 ∷ []) returnAndWait 1 (release 3 1 ∷ deliver 1 ∷ tick 1 ∷ release 1 1 ∷ deliver 1 ∷ deliver 0 ∷ tick 1 ∷ release 1 1 ∷ deliver 1 ∷ [])
+    ∷ longest 1 0 (0 ∷ 1 ∷ []) [] 0 []
     ∷ []
 
 -- ---- a sound board on which every step is refused: its one unit is suspended, and its request would pass 2^40. It is active, so no drain begins here

@@ -16,7 +16,9 @@ pub mod Visits
 pub mod Lists
 pub mod Finished
 pub mod Drains
+pub mod Busy
 pub mod Guarantee
+pub mod Longest
 pub mod Verdicts
 pub mod Runs
 pub mod Orders

@@ -7,3 +7,4 @@ pub mod Touching
 pub mod Lists
 pub mod Finished
 pub mod Drains
+pub mod Longest

@@ -7,8 +7,8 @@ use lib.ListN.{length, take, replicate}
 use Rattle.listing.specs.Scripts.{listing}
 use Rattle.listing.specs.Parts.{beginning, callText, callNext, joined}
 use Rattle.listing.specs.declared.Cursor.{Cursor}
-use Rattle.sheetboard.specs.declared.reading.Input.{Input}
-use Rattle.sheetboard.specs.declared.reading.Input.the-variants.{Bytes, Failed}
+use Rattle.reading.specs.declared.Input.{Input}
+use Rattle.reading.specs.declared.Input.the-variants.{Bytes, Failed}
 
 -- one part from a cursor, with a buffer of so many bytes: the first `count` bytes that the buffer is left with, and the cursor behind them
 pub record Hands (c : Cursor) (s : List ℕ) (room count : ℕ) (next : Cursor) (left : List ℕ) : Type 0 where

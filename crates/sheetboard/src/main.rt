@@ -1,8 +1,6 @@
 // The program: reads a script from standard input, lists it in parts, and hands each part to standard output. Nothing of the rules is decided here.
-// What passes between a process and its files no contract can say, so four lines are to be read: the call of `libc::read` (in reading.rt), the call of
+// What passes between a process and its files no contract can say, so four lines are to be read: the call of `libc::read` (in the crate reading), the call of
 // `list_read` in `main`, which lists what was read, the call of `hand_over`, which is handed the start of the buffer, and that of `io::write_all`.
-mod reading;
-
 use libc::STDOUT_FILENO;
 use listing::Cursor;
 use placing::Wrote;
@@ -10,8 +8,8 @@ use reading::Input;
 use reading::read_input;
 ghost use mathlib.Core.Path.{_≡_};
 ghost use lib.ListN.{length};
+ghost use Rattle.reading.specs.Input.{Within};
 ghost use Rattle.listing.specs.Turns.{bytesOf};
-ghost use Rattle.sheetboard.specs.Input.{Within};
 ghost use Rattle.sheetboard.specs.Output.{Hands, HandsOver, Lists};
 
 // What the output was handed: how many bytes, and whether it took all of them.

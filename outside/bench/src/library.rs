@@ -1,12 +1,14 @@
 //! The proved loops over the public functions, as Rust sees them. Each opens a board whose units form a binary tree,
-//! runs a list of steps on it and gives how many were accepted; but for the census, which gives a count of lists.
+//! runs a list of steps on it and gives how many were accepted; but for the census, which gives a count of lists, and the
+//! longest drain, which gives its length.
 
+use crate::drains::Approach;
 use crate::lists::Case;
 use reference::Step;
 
 /// The record that a lent list holds: four numbers of 16 bits, in this order.
 #[repr(C)]
-#[derive(Clone, Copy)]
+#[derive(Clone, Copy, Debug, Default, PartialEq, Eq)]
 pub struct Record {
     kind: u16,
     unit: u16,
@@ -18,6 +20,11 @@ impl Record {
     pub fn of(step: &Step) -> Record {
         Record { kind: step.kind, unit: step.unit, other: step.other, slot: step.slot }
     }
+
+    #[cfg(test)]
+    pub fn step(&self) -> Step {
+        Step { kind: self.kind, unit: self.unit, other: self.other, slot: self.slot }
+    }
 }
 
 extern "C" {
@@ -27,9 +34,20 @@ extern "C" {
     fn bench_lent(n: u16, m: u16, d: u16, steps: *const Record, length: usize) -> u64;
     fn bench_run(n: u16, m: u16, d: u16, steps: *const Record, length: usize, answers: *mut u16, room: usize) -> u64;
     fn bench_census(m: u16, d: u16, parents: *const u16, count: usize, length: u16, sort: u16) -> u64;
+    fn bench_length(m: u16, d: u16, parents: *const u16, count: usize, steps: *const u16, numbers: usize) -> u64;
+    fn bench_longest(
+        m: u16,
+        d: u16,
+        parents: *const u16,
+        count: usize,
+        steps: *const u16,
+        numbers: usize,
+        list: *mut Record,
+        room: usize,
+    ) -> u64;
 }
 
-// SAFETY, of all six: the pointers and lengths are those of live slices, and a buffer is borrowed for its call alone.
+// SAFETY, of all eight: the pointers and lengths are those of live slices, and a buffer is borrowed for its call alone.
 
 /// The public step, by value, on each record.
 pub fn by_value(case: &mut Case) -> u64 {
@@ -62,4 +80,17 @@ pub fn soundness(case: &mut Case) -> u64 {
 /// refusal.
 pub fn census(m: u16, d: u16, parents: &[u16], length: u16, sort: u16) -> u64 {
     unsafe { bench_census(m, d, parents.as_ptr(), parents.len(), length, sort) }
+}
+
+/// The length of the longest drain of the board after the steps, or 2^32 and the refusal.
+pub fn length(approach: &Approach) -> u64 {
+    let Approach { m, d, parents, flat, .. } = approach;
+    unsafe { bench_length(*m, *d, parents.as_ptr(), parents.len(), flat.as_ptr(), flat.len()) }
+}
+
+/// The same, and the drain goes to the first entries of the list.
+pub fn longest(approach: &Approach, list: &mut [Record]) -> u64 {
+    let Approach { m, d, parents, flat, .. } = approach;
+    let (parents, count, steps, numbers) = (parents.as_ptr(), parents.len(), flat.as_ptr(), flat.len());
+    unsafe { bench_longest(*m, *d, parents, count, steps, numbers, list.as_mut_ptr(), list.len()) }
 }

@@ -1,20 +1,26 @@
 //! Times the proved code beside plain Rust, in one run: `bench PROGRAM PLAIN`, where the two are the programs to compare.
+//! `bench drains` times the longest drains alone.
 //! `bench once WHAT UNITS SLOTS STEPS` does one piece of work once, `bench list SIDE BYTES TIMES` lists a script of that
-//! size as often, and `bench census SIDE TIMES` takes the largest census as often, where the side is proved, plain or
-//! tested: for a count of instructions. `bench script BYTES` writes such a script.
+//! size as often, `bench census SIDE TIMES` takes the largest census as often, where the side is proved, plain or
+//! tested, and `bench drain SIDE NAME CALL` finds the longest drain of the board of that name (largest, middle, no-delay)
+//! once, where the call is list, or length for its length alone: for a count of instructions. `bench script BYTES` writes
+//! such a script.
 
 mod census;
+mod drains;
 mod library;
 mod lists;
 mod plain;
 mod timing;
 
+use drains::Approach;
+use library::Record;
 use lists::Case;
 use std::fs::File;
 use std::hint::black_box;
 use std::io::Write;
 use std::process::{Command, ExitCode, Stdio};
-use timing::beside;
+use timing::{beside, beside_without_part, Beside};
 
 type Work = fn(&mut Case) -> u64;
 
@@ -41,9 +47,13 @@ const WORKS: [(&str, Work); 8] = [
 
 /// One line: what, for which size, nanoseconds of the proved and of the plain, the ratio. `per` items were worked off.
 fn line(what: &str, size: &str, per: usize, proved: &mut dyn FnMut() -> u64, plain: &mut dyn FnMut() -> u64) {
-    let times = beside(proved, plain);
-    let each = |time: f64| time / per as f64;
-    println!("{what:<28}{size:>16}{:>12.1}{:>12.1}{:>8.2}", each(times.proved), each(times.plain), times.ratio);
+    print(what, size, per, 1, beside(proved, plain));
+}
+
+/// The line with so many decimals.
+fn print(what: &str, size: &str, per: usize, decimals: usize, times: Beside) {
+    let (proved, plain) = (times.proved / per as f64, times.plain / per as f64);
+    println!("{what:<28}{size:>16}{proved:>12.decimals$}{plain:>12.decimals$}{:>8.2}", times.ratio);
 }
 
 fn heading(text: &str) {
@@ -138,6 +148,39 @@ fn repeat_census(side: &str, times: usize) -> Option<()> {
     Some(())
 }
 
+/// At most 3 times plain Rust is wanted for an entry. What it costs is told by the call for the list without the call for
+/// the length: both open the board, take the steps and find the length. Then the whole call is shown, for an entry, too.
+fn longest_drains() {
+    heading("an entry of the longest drain, alone and with the steps to the board");
+    for name in ["largest", "middle", "no-delay"] {
+        let approach = Approach::named(name).expect("it has the name");
+        let length = drains::length(&approach) as usize;
+        let size = format!("64, {}, {length}", approach.d);
+        let mut lists = (vec![Record::default(); length], vec![Record::default(); length]);
+        let mut proved = || library::longest(&approach, &mut lists.0);
+        let mut plain = || drains::longest(&approach, &mut lists.1);
+        let proved_length = &mut || library::length(&approach);
+        let plain_length = &mut || drains::length(&approach);
+        let entries = beside_without_part([&mut proved, proved_length], [&mut plain, plain_length]);
+        print("entry", &size, length, 2, entries);
+        print("entry, with the steps", &size, length, 2, beside(&mut proved, &mut plain));
+    }
+}
+
+/// The longest drain of a board by its name, once, for a count of instructions. The length alone has a list, too, so that
+/// the two differ in nothing else.
+fn drain(side: &str, name: &str, call: &str) -> Option<u64> {
+    let approach = Approach::named(name)?;
+    let mut list = vec![Record::default(); drains::length(&approach) as usize];
+    match (side, call) {
+        ("proved", "list") => Some(library::longest(&approach, &mut list)),
+        ("proved", "length") => Some(library::length(&approach)),
+        ("plain", "list") => Some(drains::longest(&approach, &mut list)),
+        ("plain", "length") => Some(drains::length(&approach)),
+        _ => None,
+    }
+}
+
 /// Runs a program on a script in a file; what it writes is dropped.
 fn process(program: &str, script: &str) -> u64 {
     let input = File::open(script).expect("the script is there");
@@ -184,6 +227,11 @@ fn main() -> ExitCode {
             let Ok(times) = times.parse() else { return ExitCode::FAILURE };
             repeat_census(side, times).map_or(ExitCode::FAILURE, |()| ExitCode::SUCCESS)
         }
+        ["drains"] => {
+            longest_drains();
+            ExitCode::SUCCESS
+        }
+        ["drain", side, name, call] => drain(side, name, call).map_or(ExitCode::FAILURE, |_| ExitCode::SUCCESS),
         ["script", bytes] => {
             let Ok(bytes) = bytes.parse() else { return ExitCode::FAILURE };
             let written = std::io::stdout().write_all(&lists::script(bytes));
@@ -194,12 +242,14 @@ fn main() -> ExitCode {
             soundness();
             runs();
             censuses();
+            longest_drains();
             listings();
             programs(proved, plain).map_or(ExitCode::FAILURE, |()| ExitCode::SUCCESS)
         }
         _ => {
-            eprintln!("usage: bench PROGRAM PLAIN | bench once WHAT UNITS SLOTS STEPS | bench list SIDE BYTES TIMES");
-            eprintln!("       bench census SIDE TIMES | bench script BYTES");
+            eprintln!("usage: bench PROGRAM PLAIN | bench drains | bench once WHAT UNITS SLOTS STEPS");
+            eprintln!("       bench list SIDE BYTES TIMES | bench census SIDE TIMES | bench drain SIDE NAME CALL");
+            eprintln!("       bench script BYTES");
             ExitCode::FAILURE
         }
     }

@@ -28,9 +28,15 @@ pub struct Beside {
     pub ratio: f64,
 }
 
-pub fn beside(proved: &mut dyn FnMut() -> u64, plain: &mut dyn FnMut() -> u64) -> Beside {
+type Work<'w> = &'w mut dyn FnMut() -> u64;
+
+/// How often a piece of work is done in one measurement.
+fn rounds(work: Work) -> u32 {
+    (LEAST / nanoseconds(1, work)).clamp(1.0, 1e6) as u32
+}
+
+pub fn beside(proved: Work, plain: Work) -> Beside {
     assert_eq!(proved(), plain(), "the two do not give the same");
-    let rounds = |work: &mut dyn FnMut() -> u64| (LEAST / nanoseconds(1, work)).clamp(1.0, 1e6) as u32;
     let (proved_rounds, plain_rounds) = (rounds(proved), rounds(plain));
     let mut times = (Vec::new(), Vec::new(), Vec::new());
     for _ in 0..REPEATS {
@@ -40,4 +46,20 @@ pub fn beside(proved: &mut dyn FnMut() -> u64, plain: &mut dyn FnMut() -> u64) -
         times.2.push(a / b);
     }
     Beside { proved: median(times.0), plain: median(times.1), ratio: median(times.2) }
+}
+
+/// The same of what a piece of work costs beyond a part of it, which is timed alone: each pair has the whole first. The
+/// part may cost far more than the rest. So short work is timed more often, and the ratio is that of the medians.
+pub fn beside_without_part([proved, proved_part]: [Work; 2], [plain, plain_part]: [Work; 2]) -> Beside {
+    assert_eq!(proved(), plain(), "the two do not give the same");
+    assert_eq!(proved_part(), plain_part(), "their parts do not give the same");
+    let (proved_rounds, plain_rounds) = (rounds(proved), rounds(plain));
+    let repeats = if proved_rounds > 1 { 10 * REPEATS } else { REPEATS };
+    let mut times = (Vec::new(), Vec::new());
+    for _ in 0..repeats {
+        times.0.push(nanoseconds(proved_rounds, proved) - nanoseconds(proved_rounds, proved_part));
+        times.1.push(nanoseconds(plain_rounds, plain) - nanoseconds(plain_rounds, plain_part));
+    }
+    let (proved, plain) = (median(times.0), median(times.1));
+    Beside { proved, plain, ratio: proved / plain }
 }

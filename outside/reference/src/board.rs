@@ -209,13 +209,26 @@ impl Board {
         if !self.is_sound() {
             return Err(UNSOUND);
         }
-        let mut at = self.unit_index(unit)?;
+        let unit = self.unit_index(unit)?;
+        Ok(self.depth_of(unit))
+    }
+
+    /// The depth of a unit in use, on a board that is known to be sound.
+    pub(crate) fn depth_of(&self, unit: usize) -> u16 {
+        let mut at = unit;
         let mut depth = 0;
         while at != 0 {
             at = usize::from(self.parents[at]);
             depth += 1;
         }
-        Ok(depth)
+        depth
+    }
+
+    /// Whether some unit is active or work is under way.
+    pub(crate) fn is_busy(&self) -> bool {
+        let active = |unit: &Unit| unit.state == State::Active;
+        let work = |slot: &Slot| slot.kind == Kind::Work;
+        self.units.iter().any(active) || self.slots.iter().any(work)
     }
 
     /// Whether the debt is paid. [30]

@@ -4,7 +4,7 @@
 //! Every list is run to its end. None is left out and none stands for others, so
 //! that the counts rest on the steps alone.
 
-use crate::board::{Board, Kind, Slot, State, Unit};
+use crate::board::Board;
 use crate::refusal::*;
 use crate::step::Step;
 
@@ -41,18 +41,12 @@ impl Counts {
     fn add(&mut self, board: &Board) {
         if board.debt == 0 {
             self.finished += 1;
-        } else if is_busy(board) {
+        } else if board.is_busy() {
             self.busy += 1;
         } else {
             self.other += 1;
         }
     }
-}
-
-fn is_busy(board: &Board) -> bool {
-    let active = |unit: &Unit| unit.state == State::Active;
-    let work = |slot: &Slot| slot.kind == Kind::Work;
-    board.units.iter().any(active) || board.slots.iter().any(work)
 }
 
 /// Counts the lists of `length` steps over all choices, from the fresh board

@@ -10,6 +10,9 @@
 //! * [`census`]: how many short lists of steps leave a board finished.
 //! * [`touched`], [`independent`]: which two steps may come in either order.
 //! * [`tell_orders`]: what a program is to tell for a file of such pairs.
+//! * [`Board::longest_length`], [`Board::write_longest`], [`Board::longest_short`]:
+//!   the longest drain of a board.
+//! * [`tell_drains`]: what a program is to tell for a file of boards to drain.
 //!
 //! Every refusal is the number that the scope document or a change request
 //! gives it, see [`refusal`].
@@ -17,6 +20,7 @@
 mod board;
 mod census;
 mod listing;
+mod longest;
 mod orders;
 pub mod refusal;
 mod rounds;
@@ -32,6 +36,7 @@ pub use listing::{
     list, list_into, listing_length, script_lines, walk, write_heading, write_listing_line,
     HEADING, SCRIPT_LIMIT,
 };
+pub use longest::{tell_drains, ShortDrain, SHORT};
 pub use orders::{independent, tell_orders, touched, Touched};
 pub use rounds::{Finding, Round, Rounds};
 pub use rows::tell_rows;

@@ -22,6 +22,7 @@ pub const NO_ROOM: Refusal = 27;
 pub const PADDED_NUMBER: Refusal = 28;
 pub const BEYOND_CENSUS: Refusal = 46;
 pub const NO_SUCH_MOVE: Refusal = 47;
+pub const LIST_TOO_SHORT: Refusal = 50;
 
 // From the state.
 pub const UNSOUND: Refusal = 30;
@@ -39,3 +40,5 @@ pub const WEIGHT_ABOVE_ONE: Refusal = 41;
 pub const ACTIVE_AT_VISIT: Refusal = 42;
 pub const NOTHING_TO_VISIT: Refusal = 43;
 pub const CREATED_FULL: Refusal = 44;
+pub const BUSY: Refusal = 48;
+pub const NO_FREE_SLOT: Refusal = 49;

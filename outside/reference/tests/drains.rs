@@ -1,56 +1,12 @@
 //! Drains, lists of accepted steps without starts and moves, and their bound
 //! (M-108): cases by hand, and every drain on small boards.
 
+mod drain;
+
+use drain::*;
 use reference::refusal::ACCEPTED;
 use reference::*;
 use std::collections::{HashMap, HashSet, VecDeque};
-
-fn open(m: u16, d: u16, parents: &[u16], steps: &[Step]) -> Board {
-    let (mut board, answer) = Board::open(m, d, parents);
-    assert_eq!(answer, ACCEPTED);
-    for &step in steps {
-        assert_eq!(board.step_checked(step), ACCEPTED, "{step:?}");
-    }
-    board
-}
-
-/// Where a drain may begin: no unit is active and no work under way.
-fn is_quiet(board: &Board) -> bool {
-    let active = board.units.iter().any(|unit| unit.state == State::Active);
-    !active && board.work_under_way() == 0
-}
-
-/// What a waiting unit or a return may still cost where every return goes to its
-/// sender's parent. One whose sender was moved up may cost a step more (M-108).
-fn old_cost(board: &Board) -> usize {
-    let depth = |unit| board.depth(unit).expect("a unit of a sound board");
-    let deepest = (0..board.n).map(depth).max().expect("a board has a unit");
-    (usize::from(board.d) + 2) * usize::from(deepest)
-}
-
-fn carriers(board: &Board) -> usize {
-    let waiting = |unit: &&Unit| unit.state == State::Waiting;
-    let returns = |slot: &&Slot| slot.kind == Kind::Return;
-    board.units.iter().filter(waiting).count() + board.slots.iter().filter(returns).count()
-}
-
-/// No drain from this board has more steps.
-fn bound(board: &Board) -> usize {
-    carriers(board) * (old_cost(board) + 1)
-}
-
-/// Takes a drain to its end and gives the number of its steps.
-fn drained(board: &Board, drain: &[Step]) -> usize {
-    assert!(is_quiet(board));
-    let mut board = board.clone();
-    for &step in drain {
-        assert!(step.kind != Step::START && step.kind != Step::MOVE);
-        assert_ne!(board.finished(), Ok(true));
-        assert_eq!(board.step_checked(step), ACCEPTED, "{step:?}");
-    }
-    assert_eq!(board.finished(), Ok(true));
-    drain.len()
-}
 
 /// Unit 2 is moved up while its return is under way to 1: the bound is attained, and
 /// the 2 that it would be without M-108's 1 is passed.
@@ -110,20 +66,6 @@ fn a_bound_attained_by_two_returns() {
 fn a_finished_board() {
     let board = open(1, 1, &[0, 1], &[Step::move_under(2, 0)]);
     assert_eq!((drained(&board, &[]), bound(&board)), (0, 0));
-}
-
-/// A board but for weights and counts, which decide nothing here: each unit that
-/// may send has weight enough, and none requests.
-fn shape(board: &Board) -> Vec<u16> {
-    let (n, m) = (usize::from(board.n), usize::from(board.m));
-    let mut shape = board.parents[..n].to_vec();
-    for unit in &board.units[..n] {
-        shape.extend([unit.state as u16, unit.countdown]);
-    }
-    for slot in &board.slots[..m] {
-        shape.extend([slot.kind as u16, slot.from, slot.to]);
-    }
-    shape
 }
 
 /// Every step with units and slots of the board.
@@ -188,45 +130,10 @@ struct Met {
     longest: usize,
 }
 
-/// The longest drains from quiet boards, by shape.
-struct Search {
-    steps: Vec<Step>,
-    longest: HashMap<Vec<u16>, usize>,
-}
-
-impl Search {
-    /// The steps of the longest drain from a board. Until it is finished, some step
-    /// goes on.
-    fn longest_from(&mut self, board: &Board) -> usize {
-        let shape = shape(board);
-        if let Some(&known) = self.longest.get(&shape) {
-            return known;
-        }
-        let mut longest = None;
-        for step in self.steps.clone() {
-            let mut after = board.clone();
-            if after.step(step) == ACCEPTED {
-                assert!(is_quiet(&after), "a drain leaves its boards quiet");
-                longest = longest.max(Some(1 + self.longest_from(&after)));
-            }
-        }
-        assert_eq!(longest.is_none(), board.debt == 0, "a drain goes on");
-        let longest = longest.unwrap_or(0);
-        self.longest.insert(shape, longest);
-        longest
-    }
-}
-
 /// Every drain from every quiet board of these sizes.
 fn search(m: u16, d: u16, parents: &[u16]) -> Met {
     let boards = quiet_boards(m, d, parents);
-    let fresh = open(m, d, parents, &[]);
-    let mut drains = steps(&fresh);
-    drains.retain(|step| step.kind != Step::START && step.kind != Step::MOVE);
-    let mut search = Search {
-        steps: drains,
-        longest: HashMap::new(),
-    };
+    let mut search = Search::new(parents.len() as u16 + 1, m);
     let mut met = Met::default();
     for board in boards.values() {
         let longest = search.longest_from(board);

@@ -8,6 +8,8 @@
 //!   exchanged that may come in either order.
 //! * [`EventList`]: a list of steps, beginnings and visits. A script has no words
 //!   for the last two.
+//! * [`QuietList`]: a list of steps that leaves a board from which drains begin;
+//!   [`settling`]: the steps that bring any board there.
 //!
 //! Steps are chosen by simulating with the reference board, so that most are
 //! accepted. Refusals 36 and 44 are out of reach: they need 65,536 grants and 2^32
@@ -18,6 +20,7 @@ mod damage;
 mod events;
 mod exchanges;
 mod forms;
+mod quiet;
 mod random;
 mod reasons;
 mod statistics;
@@ -26,6 +29,7 @@ mod walker;
 pub use check::check_listing;
 pub use events::{Event, EventList};
 pub use exchanges::{exchanged, exchanges, through_other, tidied, Exchange};
+pub use quiet::{settling, QuietList};
 pub use random::Random;
 pub use statistics::{Statistics, REACHABLE};
 

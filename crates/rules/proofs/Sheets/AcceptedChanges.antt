@@ -95,11 +95,11 @@ accepted-changes b r z e =
 
 -- ---- an accepted move: all else is stored where it stood
 -- a count with nothing added
-none-counted : (ks : List ℕ) (u : ℕ) → set ks u (getD ks u 0 + 0) ≡ ks
-none-counted ks u = ap (set ks u) (omega arith) ∙ set-getD ks u 0
+pub none-counted : (ks : List ℕ) (u k : ℕ) → k ≡ 0 → set ks u (getD ks u 0 + k) ≡ ks
+none-counted ks u k e = ap (set ks u) (omega arith) ∙ set-getD ks u 0
 
 pub move-does : (b : Sheet) (r : StepRecord) → AcceptedAs b r Move → step b r .sheet ≡ changed b (set (b .parents) (r .unit) (r .other)) (b .units) (b .slots) (b .debt) (b .created) (b .processed)
 unfolding applied
 move-does b r c =
     ap (λ (o : Outcome). o .sheet) (c .gives)
-    ∙ rw (set-getD (b .units) (r .unit) blankUnit, set-getD (b .slots) 0 blankSlot, none-counted (b .created) (r .unit), none-counted (b .processed) (r .unit))
+    ∙ rw (set-getD (b .units) (r .unit) blankUnit, set-getD (b .slots) 0 blankSlot, none-counted (b .created) (r .unit) 0 refl, none-counted (b .processed) (r .unit) 0 refl)

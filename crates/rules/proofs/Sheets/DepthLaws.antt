@@ -1,7 +1,7 @@
 -- Depth on a sound board: a unit is one deeper than its parent, and none is deeper than the greatest depth.
 use mathlib.Core.Path.{_≡_, refl, ap}
 use mathlib.Core.List.{List}
-use Prim.Native.Nat.{ℕ, zero, suc, _≤_, _<_, max, zero-le, suc-le-suc}
+use Prim.Native.Nat.{ℕ, zero, suc, _-_, _≤_, _<_, max, zero-le, suc-le-suc}
 use native.Mathlib.Nat.{not-suc-le-zero, le-refl, le-max-left, le-max-right, le-trans}
 use native.Mathlib.Decide.{ℕ-discrete}
 use native.Mathlib.Omega.{arith}
@@ -58,3 +58,6 @@ depth-at-most ps (suc n) i l = by-place (ℕ-discrete i n) (λ q. depth-at-most 
 -- ---- on a sound board
 pub deeper-than-parent : (b : Sheet) → Sound b → (u : ℕ) → 1 ≤ u → u < b .n → depth (b .parents) u ≡ suc (depth (b .parents) (parentAt b u))
 deeper-than-parent b h u p l = depth-parent (b .parents) u p (λ i q r. parent-below b h i q (omega arith))
+
+pub one-above : (b : Sheet) → Sound b → (u : ℕ) → 1 ≤ u → u < b .n → depth (b .parents) u - 1 ≡ depth (b .parents) (parentAt b u)
+one-above b h u p l = omega (arith, deeper-than-parent b h u p l)

@@ -16,6 +16,7 @@ use Rattle.rules.specs.Sheets.Steps.{checksOn, applied, step}
 use Rattle.rules.specs.Events.{afterAll, DrainOf}
 use Rattle.rules.specs.Sheets.Lists.{after}
 use Rattle.rules.specs.Sheets.Drains.{Quiet, DrainStep, Drain, returns, waits, waitStep, wayStep, waitingUnits, drainBound, shallowReturns}
+use Rattle.rules.specs.Sheets.Longest.{longestLength}
 use Rattle.rules.specs.Guarantee.{Fits16, sheets, Longer, Drains}
 use Rattle.rules.proofs.FactLaws.{asked}
 use Rattle.rules.proofs.SumLaws.{PartAbove, sum-above}
@@ -24,7 +25,7 @@ use Rattle.rules.proofs.Sheets.Accepted.{step-does}
 use Rattle.rules.proofs.Sheets.EntryLaws.{empty-is, unit-row-as, slot-row-as}
 use Rattle.rules.proofs.Sheets.ListLaws.{step-keeps-sound, list-keeps-sound}
 use Rattle.rules.proofs.Sheets.FinishedLaws.{debt-finished}
-use Rattle.rules.proofs.Sheets.Potential.{potential, not-active, not-work, not-request, not-supply, drain-step-lowers, potential-less, potential-bound}
+use Rattle.rules.proofs.Sheets.Potential.{not-active, not-work, not-request, not-supply, drain-step-lowers, potential-less, potential-bound}
 use Rattle.rules.specs.declared.State.{State}
 use Rattle.rules.specs.declared.State.the-variants.{Idle, Active, Waiting}
 use Rattle.rules.specs.declared.Kind.{Kind}
@@ -34,8 +35,8 @@ use Rattle.rules.specs.declared.UnitRecord.{UnitRecord}
 use Rattle.rules.specs.declared.Slot.{Slot}
 use Rattle.rules.specs.declared.StepRecord.{StepRecord}
 
--- ---- a drain is at most as long as the potential, and leaves the board quiet
-drain-length : (b : Sheet) (rs : List StepRecord) → Sound b → Quiet b → Drain b rs → length rs ≤ potential b
+-- ---- a drain is at most as long as the longest (M-109), and leaves the board quiet
+pub drain-length : (b : Sheet) (rs : List StepRecord) → Sound b → Quiet b → Drain b rs → length rs ≤ longestLength b
 unfolding DrainOf
 drain-length b [] h q z = omega arith
 drain-length b (r ∷ rs) h q z =

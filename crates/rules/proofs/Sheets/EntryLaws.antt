@@ -1,15 +1,17 @@
 -- What a sound board says of a unit whose state is known, and of a slot whose kind is known.
-use mathlib.Core.Path.{_≡_, refl, sym, ap, subst}
+use mathlib.Core.Path.{_≡_, refl, sym, ap, subst, _∙_}
 use mathlib.Core.Bool.{Bool, true, false}
 use Prim.Native.Nat.{ℕ, _≤_, _<_}
 use native.Mathlib.Nat.{not-suc-le-zero}
 use native.Mathlib.Omega.{arith}
 use Rattle.rules.specs.Facts.{Claims, oneIf}
-use Rattle.rules.specs.Words.{isIdle, isActive, isWaiting, isEmpty, blankSlot}
+use Rattle.rules.specs.Words.{isIdle, isActive, isWaiting, isEmpty, blankUnit, blankSlot}
 use Rattle.rules.specs.Sheets.Sheet.{unitAt, slotAt, Sheet}
 use Rattle.rules.specs.Sheets.Sound.{stateRow, pendingIn, pending, Sound, kindRowOn}
+use Rattle.rules.specs.Effects.{waitingWith}
+use Rattle.rules.proofs.FactLaws.{true-not-false}
 use Rattle.rules.proofs.SumLaws.{sum-part}
-use Rattle.rules.proofs.Sheets.SoundLaws.{unit-row, slot-row, pending-row, weights-fit}
+use Rattle.rules.proofs.Sheets.SoundLaws.{below-or-not, unit-row, unit-past-row, unit-past, slot-row, slot-past-row, slot-past, pending-row, weights-fit}
 use Rattle.rules.specs.declared.State.{State}
 use Rattle.rules.specs.declared.State.the-variants.{Idle, Active, Waiting}
 use Rattle.rules.specs.declared.Kind.{Kind}
@@ -52,6 +54,29 @@ unit-row-as b h i k l e = subst (λ (j : State). Claims (stateRow (b .delay) i (
 
 pub slot-row-as : (b : Sheet) → Sound b → (s : ℕ) (k : Kind) → s < b .m → slotAt b s .kind ≡ k → Claims (kindRowOn b (slotAt b s) k)
 slot-row-as b h s k l e = subst (λ (j : Kind). Claims (kindRowOn b (slotAt b s) j)) e (slot-row b h s l)
+
+-- an idle unit is blank, an empty slot too, in use or not; a waiting unit has its weight and its countdown alone
+pub idle-blank : (b : Sheet) → Sound b → (i : ℕ) → unitAt b i .state ≡ Idle → unitAt b i ≡ blankUnit
+idle-blank b h i e =
+    let row : Claims (stateRow (b .delay) i (unitAt b i) Idle) = below-or-not i (b .n) (λ l. unit-row-as b h i Idle l e) (λ l. unit-past-row b h i l .1) in
+    λ z. record { weight = row .0 z; countdown = row .1 .0 z; state = e z; suspended = row .1 .1 .0 z }
+
+pub empty-blank : (b : Sheet) → Sound b → (j : ℕ) → slotAt b j .kind ≡ Empty → slotAt b j ≡ blankSlot
+empty-blank b h j e =
+    let row : Claims (kindRowOn b (slotAt b j) Empty) = below-or-not j (b .m) (λ l. slot-row-as b h j Empty l e) (λ l. slot-past-row b h j l .1) in
+    λ z. record { weight = row .1 .1 .0 z; from = row .0 z; to = row .1 .0 z; kind = e z }
+
+pub waiting-with : (b : Sheet) → Sound b → (i : ℕ) → i < b .n → unitAt b i .state ≡ Waiting → unitAt b i ≡ waitingWith (unitAt b i .weight) (unitAt b i .countdown)
+waiting-with b h i l e =
+    let row : Claims (stateRow (b .delay) i (unitAt b i) Waiting) = unit-row-as b h i Waiting l e in
+    λ z. record { weight = unitAt b i .weight; countdown = unitAt b i .countdown; state = e z; suspended = row .1 .1 .0 z }
+
+-- a waiting unit is in use, and so is a filled slot
+pub waiting-in-use : (b : Sheet) → Sound b → (i : ℕ) → unitAt b i .state ≡ Waiting → i < b .n
+waiting-in-use b h i e = below-or-not i (b .n) (λ l. l) (λ l. absurd (true-not-false (sym (unit-past b h i l) ∙ ap isIdle e)))
+
+pub filled-in-use : (b : Sheet) → Sound b → (j : ℕ) → isEmpty (slotAt b j .kind) ≡ false → j < b .m
+filled-in-use b h j e = below-or-not j (b .m) (λ l. l) (λ l. absurd (true-not-false (sym (slot-past b h j l) ∙ e)))
 
 pub pending-as : (i : ℕ) (y : Slot) (k : Kind) → y .kind ≡ k → pendingIn i y (y .kind) ≡ pendingIn i y k
 pending-as i y k e = ap (pendingIn i y) e

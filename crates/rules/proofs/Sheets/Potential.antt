@@ -1,9 +1,9 @@
--- The potential of a board: with no unit active and no work under way, each accepted step but a start or a move lowers it by at least 1, and
+-- The length of the longest drain (M-109) is the potential of a board: with no unit active and no work under way, each accepted step but a start or a move lowers it by at least 1, and
 -- it is at most the bound on drains.
 use mathlib.Core.Path.{_≡_, refl, sym, ap, subst, _∙_}
 use mathlib.Core.Bool.{Bool, true, false, _&&_}
 use mathlib.Core.List.{List, [], _∷_}
-use Prim.Native.Nat.{ℕ, zero, suc, _+_, _*_, _≤_, _<_}
+use Prim.Native.Nat.{ℕ, zero, suc, _+_, _*_, _-_, _≤_, _<_}
 use native.Mathlib.Nat.{add-mul, mul-suc, mul-le-mul-left}
 use native.Mathlib.Omega.{arith}
 use lib.ListN.{getD, set}
@@ -11,7 +11,7 @@ use lib.Dec.{ltb}
 use lib.Seq.{set-getD}
 use borrow.Author.Tests.{eq-eqb, ltb-true}
 use Rattle.rules.specs.Facts.{sumOf, oneIf}
-use Rattle.rules.specs.Words.{isIdle, isEmpty, isActive, isWaiting, isWork, isReturn, blankUnit, blankSlot}
+use Rattle.rules.specs.Words.{isEmpty, isActive, isWaiting, isWork, isReturn, blankUnit, blankSlot}
 use Rattle.rules.specs.Sheets.Sheet.{parentAt, unitAt, slotAt, Sheet, Outcome}
 use Rattle.rules.specs.Sheets.Sound.{pendingIn, Sound}
 use Rattle.rules.specs.Sheets.Depths.{depth, greatestDepth}
@@ -20,13 +20,14 @@ use Rattle.rules.specs.Letters.{slotOf}
 use Rattle.rules.specs.Effects.{message, waitingWith, returned, returnEffect, deliverEffect}
 use Rattle.rules.specs.Sheets.Steps.{unitOf, doneOn, changed, applied, step}
 use Rattle.rules.specs.Sheets.Lists.{undrainedBy}
+use Rattle.rules.specs.Sheets.Longest.{unitLength, slotLength, unitsLength, slotsLength, longestLength}
 use Rattle.rules.specs.Sheets.Drains.{Quiet, DrainStep, waitingUnits, returnsUnderWay, drainBound, shallowReturns}
 use Rattle.rules.proofs.FactLaws.{true-not-false}
 use Rattle.rules.proofs.SumLaws.{sum-set, sum-bound, sum-plus}
-use Rattle.rules.proofs.Sheets.SoundLaws.{below-or-not, root-or-other, unit-past, slot-past}
+use Rattle.rules.proofs.Sheets.SoundLaws.{root-or-other}
 use Rattle.rules.proofs.Sheets.Accepted.{AcceptedAs, shown, accepted-as}
-use Rattle.rules.proofs.Sheets.EntryLaws.{waiting-is, unit-row-as, slot-row-as, pending-as, suspended-active, pending-suspended}
-use Rattle.rules.proofs.Sheets.DepthLaws.{depth-at-most, deeper-than-parent}
+use Rattle.rules.proofs.Sheets.EntryLaws.{waiting-is, waiting-in-use, filled-in-use, receiver-in-use, unit-row-as, slot-row-as, pending-as, suspended-active, pending-suspended}
+use Rattle.rules.proofs.Sheets.DepthLaws.{depth-at-most, deeper-than-parent, one-above}
 use Rattle.rules.specs.declared.State.{State}
 use Rattle.rules.specs.declared.State.the-variants.{Idle, Active, Waiting}
 use Rattle.rules.specs.declared.Kind.{Kind}
@@ -38,28 +39,6 @@ use Rattle.rules.specs.declared.UnitRecord.{UnitRecord}
 use Rattle.rules.specs.declared.Slot.{Slot}
 use Rattle.rules.specs.declared.StepRecord.{StepRecord}
 
--- ---- the potential: the steps that a waiting unit and a return under way can still cause
-abbrev pub unitWorth : ℕ → List ℕ → ℕ → UnitRecord → State → ℕ
-unitWorth d ps i u Idle = 0
-unitWorth d ps i u Active = 0
-unitWorth d ps i u Waiting = u .countdown + (2 + (d + 2) * depth ps (getD ps i 0))
-
-abbrev pub slotWorth : ℕ → List ℕ → Slot → Kind → ℕ
-slotWorth d ps y Empty = 0
-slotWorth d ps y Work = 0
-slotWorth d ps y Return = 1 + (d + 2) * depth ps (y .to)
-slotWorth d ps y Request = 0
-slotWorth d ps y Supply = 0
-
-unfoldable pub unitsWorth : ℕ → List ℕ → List UnitRecord → ℕ
-unitsWorth d ps us = sumOf (λ i u. unitWorth d ps i u (u .state)) us
-
-unfoldable pub slotsWorth : ℕ → List ℕ → List Slot → ℕ
-slotsWorth d ps ys = sumOf (λ j y. slotWorth d ps y (y .kind)) ys
-
-abbrev pub potential : Sheet → ℕ
-potential b = unitsWorth (b .delay) (b .parents) (b .units) + slotsWorth (b .delay) (b .parents) (b .slots)
-
 -- what holds of every entry and of a new one holds of every entry after the store
 set-all : {A : Type 0} (P : A → Type 0) (xs : List A) (i : ℕ) (a d : A) → P a → ((j : ℕ) → P (getD xs j d)) → (j : ℕ) → P (getD (set xs i a) j d)
 set-all P [] i a d p h j = h j
@@ -68,23 +47,26 @@ set-all P (x ∷ xs) zero a d p h (suc j) = h (suc j)
 set-all P (x ∷ xs) (suc i) a d p h zero = h zero
 set-all P (x ∷ xs) (suc i) a d p h (suc j) = set-all P xs i a d p (λ k. h (suc k)) j
 
+abbrev receiverDepth : Sheet → Slot → ℕ
+receiverDepth b y = depth (b .parents) (y .to)
+
 -- ---- one step of a drain
 pub record Lower (b c : Sheet) : Type 0 where
   pub quiet : Quiet c
-  pub less : potential c + 1 ≤ potential b
+  pub less : longestLength c + 1 ≤ longestLength b
 
 module _ (b : Sheet) (h : Sound b) (q : Quiet b) where
   abbrev worthOf : ℕ → UnitRecord → ℕ
-  worthOf i u = unitWorth (b .delay) (b .parents) i u (u .state)
+  worthOf i u = unitLength (b .delay) (depth (b .parents) i) u (u .state)
 
   abbrev slotWorthOf : Slot → ℕ
-  slotWorthOf y = slotWorth (b .delay) (b .parents) y (y .kind)
+  slotWorthOf y = slotLength (b .delay) (receiverDepth b y) (y .kind)
 
   -- the parent that stood there is stored again
   lower-both : (u s : ℕ) (x : UnitRecord) (y : Slot) (debt : ℕ) {cs ds : List ℕ} → u < b .n → s < b .m → isActive (x .state) ≡ false → isWork (y .kind) ≡ false
       → worthOf u x + slotWorthOf y + 1 ≤ worthOf u (unitAt b u) + slotWorthOf (slotAt b s)
       → Lower b (changed b (set (b .parents) u (parentAt b u)) (set (b .units) u x) (set (b .slots) s y) debt cs ds)
-  unfolding unitsWorth slotsWorth
+  unfolding unitsLength slotsLength
   lower-both u s x y debt {cs} {ds} l k a e w = subst (λ (ps : List ℕ). Lower b (changed b ps (set (b .units) u x) (set (b .slots) s y) debt cs ds)) (sym (set-getD (b .parents) u 0)) (record {
     quiet = record {
       none-active = set-all (λ (z : UnitRecord). isActive (z .state) ≡ false) (b .units) u x blankUnit a (q .none-active);
@@ -124,11 +106,11 @@ module _ (b : Sheet) (h : Sound b) (q : Quiet b) where
   not-supply s l e =
       not-pending s (slotAt b s .to) (slot-row-as b h s Supply l e .1 .0) (pending-as _ (slotAt b s) Supply e ∙ ap oneIf (eq-eqb (slotAt b s .to) (slotAt b s .to) refl))
 
-  worth-as : (i : ℕ) (k : State) → unitAt b i .state ≡ k → worthOf i (unitAt b i) ≡ unitWorth (b .delay) (b .parents) i (unitAt b i) k
-  worth-as i k e = ap (unitWorth (b .delay) (b .parents) i (unitAt b i)) e
+  worth-as : (i : ℕ) (k : State) → unitAt b i .state ≡ k → worthOf i (unitAt b i) ≡ unitLength (b .delay) (depth (b .parents) i) (unitAt b i) k
+  worth-as i k e = ap (unitLength (b .delay) (depth (b .parents) i) (unitAt b i)) e
 
-  slot-worth-as : (s : ℕ) (k : Kind) → slotAt b s .kind ≡ k → slotWorthOf (slotAt b s) ≡ slotWorth (b .delay) (b .parents) (slotAt b s) k
-  slot-worth-as s k e = ap (slotWorth (b .delay) (b .parents) (slotAt b s)) e
+  slot-worth-as : (s : ℕ) (k : Kind) → slotAt b s .kind ≡ k → slotWorthOf (slotAt b s) ≡ slotLength (b .delay) (receiverDepth b (slotAt b s)) k
+  slot-worth-as s k e = ap (slotLength (b .delay) (receiverDepth b (slotAt b s))) e
 
   -- ---- the steps that can be accepted
   module _ (r : StepRecord) where
@@ -145,8 +127,9 @@ module _ (b : Sheet) (h : Sound b) (q : Quiet b) where
     release-lower : AcceptedAs b r Release → LowerBy Release (r .unit) (r .slot) (doneOn b r Release)
     unfolding applied
     release-lower c =
+        let waiting = waiting-is (unitAt b (r .unit) .state) (shown 38 c) in
         lower-both (r .unit) (r .slot) blankUnit (message Return (r .unit) (parentAt b (r .unit)) (unitAt b (r .unit) .weight)) (b .debt) (shown 13 c) (shown 14 c) refl refl
-        (omega (arith, worth-as (r .unit) Waiting (waiting-is _ (shown 38 c))))
+        (omega (arith, worth-as (r .unit) Waiting waiting, ap (λ (k : ℕ). (b .delay + 2) * k) (one-above b h (r .unit) (unit-row-as b h (r .unit) Waiting (shown 13 c) waiting .1 .1 .1 .0) (shown 13 c))))
 
     -- a return reaches unit 0, or it makes an idle or waiting unit wait, one less deep
     module _ (c : AcceptedAs b r Deliver) (e : slotAt b (r .slot) .kind ≡ Return) where
@@ -162,8 +145,10 @@ module _ (b : Sheet) (h : Sound b) (q : Quiet b) where
       receiver-used : v < b .n
       receiver-used = omega (arith, slot-row-as b h (r .slot) Return (shown 14 c) e)
 
-      one-deeper : 1 ≤ v → (b .delay + 2) * depth (b .parents) v ≡ (b .delay + 2) * depth (b .parents) (parentAt b v) + (b .delay + 2)
-      one-deeper l = ap (λ (k : ℕ). (b .delay + 2) * k) (deeper-than-parent b h v l receiver-used) ∙ mul-suc (b .delay + 2) (depth (b .parents) (parentAt b v))
+      one-deeper : 1 ≤ v → (b .delay + 2) * depth (b .parents) v ≡ (b .delay + 2) * (depth (b .parents) v - 1) + (b .delay + 2)
+      one-deeper l =
+          let deep = deeper-than-parent b h v l receiver-used in
+          ap (λ (k : ℕ). (b .delay + 2) * k) (omega (arith, deep)) ∙ mul-suc (b .delay + 2) (depth (b .parents) v - 1)
 
       -- whatever its countdown is then: at most the delay
       waits-lower : (k : ℕ) {cs ds : List ℕ} → k ≤ b .delay → 1 ≤ v
@@ -233,18 +218,17 @@ module _ (b : Sheet) (h : Sound b) where
   waitsAt u = oneIf (isWaiting (u .state))
 
   -- a waiting unit is worth at least 1 less: it is one deeper than its parent
-  unit-most : (i : ℕ) → i < 64 → unitWorth (b .delay) (b .parents) i (unitAt b i) (unitAt b i .state) + waitsAt (unitAt b i) * 1 ≤ waitsAt (unitAt b i) * most
+  unit-most : (i : ℕ) → i < 64 → unitLength (b .delay) (depth (b .parents) i) (unitAt b i) (unitAt b i .state) + waitsAt (unitAt b i) * 1 ≤ waitsAt (unitAt b i) * most
   unit-most i l = by-state (unitAt b i .state) refl
     where
-      waiting-most : unitAt b i .state ≡ Waiting → unitWorth (b .delay) (b .parents) i (unitAt b i) Waiting + 1 * 1 ≤ 1 * most
+      waiting-most : unitAt b i .state ≡ Waiting → unitLength (b .delay) (depth (b .parents) i) (unitAt b i) Waiting + 1 * 1 ≤ 1 * most
       waiting-most e =
-          below-or-not i (b .n)
-          (λ p.
+          let p : i < b .n = waiting-in-use b h i e in
           let row = unit-row-as b h i Waiting p e in
-          omega (arith, deeper-most (depth (b .parents) (parentAt b i)) (subst (λ (k : ℕ). k ≤ greatestDepth b) (deeper-than-parent b h i (row .1 .1 .1 .0) p) (depth-at-most (b .parents) (b .n) i p)), row))
-          (λ p. absurd (true-not-false (sym (unit-past b h i p) ∙ ap isIdle e)))
+          let deep = deeper-than-parent b h i (row .1 .1 .1 .0) p in
+          omega (arith, deeper-most (depth (b .parents) i - 1) (omega (arith, deep, depth-at-most (b .parents) (b .n) i p)), row)
 
-      by-state : (k : State) → unitAt b i .state ≡ k → unitWorth (b .delay) (b .parents) i (unitAt b i) k + oneIf (isWaiting k) * 1 ≤ oneIf (isWaiting k) * most
+      by-state : (k : State) → unitAt b i .state ≡ k → unitLength (b .delay) (depth (b .parents) i) (unitAt b i) k + oneIf (isWaiting k) * 1 ≤ oneIf (isWaiting k) * most
       by-state Idle e = omega arith
       by-state Active e = omega arith
       by-state Waiting e = waiting-most e
@@ -252,43 +236,38 @@ module _ (b : Sheet) (h : Sound b) where
   abbrev returnAt : Slot → ℕ
   returnAt y = oneIf (isReturn (y .kind))
 
-  abbrev receiverDepth : Slot → ℕ
-  receiverDepth y = depth (b .parents) (y .to)
-
   abbrev shallowAt : Slot → ℕ
-  shallowAt y = oneIf (isReturn (y .kind) && ltb (receiverDepth y) (greatestDepth b))
+  shallowAt y = oneIf (isReturn (y .kind) && ltb (receiverDepth b y) (greatestDepth b))
 
   -- a return to a unit that is not among the deepest is worth at least d + 2 less
-  slot-most : (j : ℕ) → j < 256 → slotWorth (b .delay) (b .parents) (slotAt b j) (slotAt b j .kind) + shallowAt (slotAt b j) * (b .delay + 2) ≤ returnAt (slotAt b j) * most
+  slot-most : (j : ℕ) → j < 256 → slotLength (b .delay) (receiverDepth b (slotAt b j)) (slotAt b j .kind) + shallowAt (slotAt b j) * (b .delay + 2) ≤ returnAt (slotAt b j) * most
   slot-most j l = by-kind (slotAt b j .kind) refl
     where
       by-depth : (k : ℕ) → k ≤ greatestDepth b → (t : Bool) → ltb k (greatestDepth b) ≡ t → 1 + (b .delay + 2) * k + oneIf t * (b .delay + 2) ≤ 1 * most
       by-depth k p true e = omega (arith, deeper-most k (ltb-true k (greatestDepth b) e))
       by-depth k p false e = omega (arith, deep-most k p)
 
-      return-most : slotAt b j .kind ≡ Return → slotWorth (b .delay) (b .parents) (slotAt b j) Return + oneIf (ltb (receiverDepth (slotAt b j)) (greatestDepth b)) * (b .delay + 2) ≤ 1 * most
-      return-most e =
-          below-or-not j (b .m) (λ p. by-depth _ (depth-at-most (b .parents) (b .n) (slotAt b j .to) (omega (arith, slot-row-as b h j Return p e))) _ refl)
-          (λ p. absurd (true-not-false (sym (slot-past b h j p) ∙ ap isEmpty e)))
+      return-most : slotAt b j .kind ≡ Return → slotLength (b .delay) (receiverDepth b (slotAt b j)) Return + oneIf (ltb (receiverDepth b (slotAt b j)) (greatestDepth b)) * (b .delay + 2) ≤ 1 * most
+      return-most e = by-depth _ (depth-at-most (b .parents) (b .n) (slotAt b j .to) (receiver-in-use b h j (filled-in-use b h j (ap isEmpty e)))) _ refl
 
       by-kind : (k : Kind) → slotAt b j .kind ≡ k
-          → slotWorth (b .delay) (b .parents) (slotAt b j) k + oneIf (isReturn k && ltb (receiverDepth (slotAt b j)) (greatestDepth b)) * (b .delay + 2) ≤ oneIf (isReturn k) * most
+          → slotLength (b .delay) (receiverDepth b (slotAt b j)) k + oneIf (isReturn k && ltb (receiverDepth b (slotAt b j)) (greatestDepth b)) * (b .delay + 2) ≤ oneIf (isReturn k) * most
       by-kind Empty e = omega arith
       by-kind Work e = omega arith
       by-kind Return e = return-most e
       by-kind Request e = omega arith
       by-kind Supply e = omega arith
 
-  pub potential-less : potential b + (waitingUnits b + shallowReturns b * (b .delay + 2)) ≤ drainBound b
-  unfolding drainBound waitingUnits returnsUnderWay shallowReturns unitsWorth slotsWorth
+  pub potential-less : longestLength b + (waitingUnits b + shallowReturns b * (b .delay + 2)) ≤ drainBound b
+  unfolding drainBound waitingUnits returnsUnderWay shallowReturns unitsLength slotsLength
   potential-less = omega (
     arith,
-    sum-plus (λ i u. unitWorth (b .delay) (b .parents) i u (u .state)) (λ i u. waitsAt u) 1 (b .units),
-    sum-bound (λ i u. unitWorth (b .delay) (b .parents) i u (u .state) + waitsAt u * 1) (λ i u. waitsAt u) most (b .units) blankUnit (λ i l. unit-most i (omega (arith, l, h .s1-sizes))),
-    sum-plus (λ j y. slotWorth (b .delay) (b .parents) y (y .kind)) (λ j y. shallowAt y) (b .delay + 2) (b .slots),
-    sum-bound (λ j y. slotWorth (b .delay) (b .parents) y (y .kind) + shallowAt y * (b .delay + 2)) (λ j y. returnAt y) most (b .slots) blankSlot (λ j l. slot-most j (omega (arith, l, h .s1-sizes))),
+    sum-plus (λ i u. unitLength (b .delay) (depth (b .parents) i) u (u .state)) (λ i u. waitsAt u) 1 (b .units),
+    sum-bound (λ i u. unitLength (b .delay) (depth (b .parents) i) u (u .state) + waitsAt u * 1) (λ i u. waitsAt u) most (b .units) blankUnit (λ i l. unit-most i (omega (arith, l, h .s1-sizes))),
+    sum-plus (λ j y. slotLength (b .delay) (depth (b .parents) (y .to)) (y .kind)) (λ j y. shallowAt y) (b .delay + 2) (b .slots),
+    sum-bound (λ j y. slotLength (b .delay) (depth (b .parents) (y .to)) (y .kind) + shallowAt y * (b .delay + 2)) (λ j y. returnAt y) most (b .slots) blankSlot (λ j l. slot-most j (omega (arith, l, h .s1-sizes))),
     add-mul (sumOf (λ i u. waitsAt u) (b .units)) (sumOf (λ j y. returnAt y) (b .slots)) most,
   )
 
-  pub potential-bound : potential b ≤ drainBound b
+  pub potential-bound : longestLength b ≤ drainBound b
   potential-bound = omega (arith, potential-less)

@@ -111,7 +111,7 @@ module _ (b : Sheet) (h : Sound b) where
   unit-row i l = row-in-use i (b .n) (stateRow (b .delay) i (unitAt b i) (unitAt b i .state)) _ l (each-at (unitRowOn b) (b .units) i blankUnit (omega arith) (h .s2-units))
 
   -- an entry from n on is blank
-  unit-past-row : (i : ℕ) → b .n ≤ i → Claims (holds (isIdle (unitAt b i .state)) ∷ stateRow (b .delay) i (unitAt b i) Idle)
+  pub unit-past-row : (i : ℕ) → b .n ≤ i → Claims (holds (isIdle (unitAt b i .state)) ∷ stateRow (b .delay) i (unitAt b i) Idle)
   unit-past-row i l =
       below-or-not i 64 (λ p. row-past i (b .n) (stateRow (b .delay) i (unitAt b i) (unitAt b i .state)) _ l (each-at (unitRowOn b) (b .units) i blankUnit (omega arith) (h .s2-units)))
       (λ p. subst (λ (u : UnitRecord). Claims (holds (isIdle (u .state)) ∷ stateRow (b .delay) i u Idle)) (sym (List·getD-eq-default (b .units) blankUnit (omega arith))) (refl, (refl, (refl, (refl, tt)))))
@@ -126,7 +126,7 @@ module _ (b : Sheet) (h : Sound b) where
   slot-row j l = row-in-use j (b .m) (kindRowOn b (slotAt b j) (slotAt b j .kind)) _ l (each-at (slotRowOn b) (b .slots) j blankSlot (omega arith) (h .s3-slots))
 
   -- an entry from M on is blank
-  slot-past-row : (j : ℕ) → b .m ≤ j → Claims (holds (isEmpty (slotAt b j .kind)) ∷ kindRowOn b (slotAt b j) Empty)
+  pub slot-past-row : (j : ℕ) → b .m ≤ j → Claims (holds (isEmpty (slotAt b j .kind)) ∷ kindRowOn b (slotAt b j) Empty)
   slot-past-row j l =
       below-or-not j 256 (λ p. row-past j (b .m) (kindRowOn b (slotAt b j) (slotAt b j .kind)) _ l (each-at (slotRowOn b) (b .slots) j blankSlot (omega arith) (h .s3-slots)))
       (λ p. subst (λ (y : Slot). Claims (holds (isEmpty (y .kind)) ∷ kindRowOn b y Empty)) (sym (List·getD-eq-default (b .slots) blankSlot (omega arith))) (refl, (refl, (refl, (refl, tt)))))

@@ -3,7 +3,8 @@ use mathlib.Core.Path.{refl}
 use mathlib.Core.Bool.{true}
 use native.Mathlib.Omega.{arith}
 use borrow.Author.Needs.{needs}
-use Rattle.sheetboard.proofs.InputLaws.{bytes-within, bytes-listed, failed-listed}
+use Rattle.reading.proofs.InputLaws.{bytes-within}
+use Rattle.sheetboard.proofs.InputLaws.{bytes-listed, failed-listed}
 use Rattle.sheetboard.proofs.list_read.Statement.{statement}
 use Rattle.sheetboard.proofs.list_read.Tie as tie
 

@@ -11,8 +11,10 @@
 //! the last four, each behind a line with its name. `cases rows` reads cases from
 //! standard input and prints what is to be told for them; their format stands at
 //! the top of `rows.rs`. `cases census` prints the table of all censuses for a
-//! reader, and `cases orders` reads pairs of steps from standard input and prints
-//! what they answer in either order; both forms are described last.
+//! reader. `cases orders` reads pairs of steps from standard input and prints what
+//! they answer in either order, and `cases drains` reads scripts and prints the
+//! longest drains of the boards that they come to; these three forms are described
+//! last.
 //!
 //! # damaged, balanced, suspended
 //!
@@ -198,11 +200,31 @@
 //! `and`; the answer of SECOND on the board, and of FIRST on the board that SECOND
 //! left; `same` where the boards after both orders are equal in every field, counts
 //! and rounds too, else `differ`.
+//!
+//! # drains
+//!
+//! Standard input has blocks, with one empty line between two of them. The first
+//! line of a block is its title, any text but none; the others are a script, as
+//! `sheetboard` reads it. Lines end with byte 10, which the last may lack. A block
+//! without a title is an error, and nothing is told.
+//!
+//! A block is told in these lines, and with an empty line behind them, the last
+//! block too:
+//! - the title as it stands;
+//! - `length` and the length of the longest drain from the board after the
+//!   script's last line, or `refused` and the number that refuses it. Where the
+//!   script's first line is refused, its number stands here, and nothing more is
+//!   told of the block;
+//! - `damaged` and the number that refuses the length on the same board with the
+//!   delay 256;
+//! - `list` and the number of steps that the call gives that hands back up to 512
+//!   of them, or `refused` and the number that refuses it;
+//! - each of these steps as a line of a script.
 
 use reference::refusal::{Refusal, ACCEPTED, NO_ROOM, UNSOUND};
 use reference::{
-    census, list, tell_orders, tell_rows, write_heading, write_listing_line, write_step, Board,
-    Counts, Kind, Slot, State, Step, Unit, DEBT_LIMIT, FULL_WEIGHT, HEADING,
+    census, list, tell_drains, tell_orders, tell_rows, write_heading, write_listing_line,
+    write_step, Board, Counts, Kind, Slot, State, Step, Unit, DEBT_LIMIT, FULL_WEIGHT, HEADING,
 };
 use std::io::{self, Write};
 use std::process::ExitCode;
@@ -217,12 +239,13 @@ fn main() -> ExitCode {
         "calls" => named(&CALLS),
         "rows" => told(tell_rows),
         "orders" => told(tell_orders),
+        "drains" => told(tell_drains),
         "census" => Some(census_table()),
         name => table(name),
     };
     let Some(lines) = lines else {
         let tables = [&BOARDS[..], &CALLS].concat().join(" | ");
-        eprintln!("usage: cases [{tables} | boards | calls | rows | census | orders]");
+        eprintln!("usage: cases [{tables} | boards | calls | rows | census | orders | drains]");
         return ExitCode::FAILURE;
     };
     match io::stdout().lock().write_all(lines.as_bytes()) {

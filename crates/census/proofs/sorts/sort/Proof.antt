@@ -3,9 +3,10 @@ use mathlib.Core.Path.{_≡_, refl, sym, _∙_}
 use mathlib.Core.Bool.{Bool, not}
 use borrow.Author.Needs.{needs}
 use Rattle.rules.specs.Facts.{oneIf}
-use Rattle.census.specs.Sorts.{isBusy}
+use Rattle.rules.specs.Busy.{isBusy}
 use Rattle.census.specs.Counting.{endsFrom}
-use Rattle.census.proofs.SortLaws.{sort-finished, sort-unfinished, busy-by}
+use Rattle.rules.proofs.BusyLaws.{busy-by}
+use Rattle.census.proofs.SortLaws.{sort-finished, sort-unfinished}
 use Rattle.census.proofs.sorts.sort.Statement.{statement}
 use Rattle.census.proofs.sorts.sort.Tie as tie
 
