@@ -1,4 +1,6 @@
 // The functions for callers in other languages, over numbers and byte slices. include/ayokwelifu.h declares them for C.
+#![tactic(auto)]
+
 mod lines;
 
 ghost use Rattle.std.specs.Prelude.{◌≡◌, length};

@@ -1,4 +1,6 @@
 // Loops over the public calls on a board, for a benchmark in another language: boards hold enums, so only numbers, step records and slices of them are passed.
+#![tactic(auto)]
+
 mod batches;
 mod delays;
 mod lent;

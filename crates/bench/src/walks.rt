@@ -9,7 +9,7 @@ use rules::Board;
 use steps::step;
 
 // The board after a list, and how many of its steps were accepted.
-#[derive(Drop)]
+#[derive(Clone, Copy)]
 pub struct Walked {
     pub board: Board,
     pub count: u64,

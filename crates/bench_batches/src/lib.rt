@@ -1,5 +1,7 @@
 // The loop over batches, in a library of its own: where a batch is all that takes steps, as in the program, the compiler
 // puts the step into its loop, and that is what is to be measured.
+#![tactic(auto)]
+
 ghost use Rattle.std.specs.Prelude.{◌≡◌};
 ghost use Rattle.bench.specs.Records.{records_in};
 ghost use Rattle.bench.specs.Counts.{accepted_of};

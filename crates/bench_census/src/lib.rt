@@ -1,5 +1,7 @@
 // The census for a benchmark in another language, in a library of its own: with other callers of the step beside it the compiler would put
 // the step elsewhere, and what is to be measured is the census where it alone takes steps.
+#![tactic(auto)]
+
 ghost use Rattle.std.specs.Prelude.{◌≡◌};
 ghost use Rattle.census.specs.Counting.{census};
 ghost use Rattle.bench_census.specs.Told.{count_of_sort, census_told};

@@ -1,4 +1,6 @@
 // The longest drain for a benchmark in another language: a board is made of numbers, and what is told is one number.
+#![tactic(auto)]
+
 ghost use Rattle.std.specs.Prelude.{◌≡◌, length};
 ghost use Rattle.drains.specs.Calls.{length_answer, list_answer, list_left};
 ghost use Rattle.bench_drains.specs.Told.{stepped_board, drain_told};

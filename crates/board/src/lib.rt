@@ -1,4 +1,6 @@
 // Calls on a whole weight board, by value: is it sound, a fresh one, the depth of a unit, is the sheet complete.
+#![tactic(auto)]
+
 mod busy;
 mod counts;
 mod depths;

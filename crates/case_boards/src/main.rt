@@ -1,4 +1,6 @@
 // What the calls answer on boards that no script reaches: one field damaged, and weights about as large as they can be.
+#![tactic(auto)]
+
 mod bases;
 mod damages;
 mod edits;

@@ -8,7 +8,7 @@ use census::{Counted, Ends};
 const MOST: usize = 65537;
 
 // What a census is asked. The first count parents are lent, and those behind the second are 0.
-#[derive(Drop)]
+#[derive(Clone, Copy)]
 struct Asked {
     m: u16,
     d: u16,

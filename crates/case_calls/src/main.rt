@@ -1,5 +1,7 @@
 // What the run, the writers and the census answer where no script reaches: short buffers, kinds that no step has, little room for a line,
 // and sizes that are not counted.
+#![tactic(auto)]
+
 mod censuses;
 mod edges;
 mod lines;

@@ -1,4 +1,6 @@
 // The blocks of standard input, each a title and a script: of the board that the script leaves, the longest drain.
+#![tactic(auto)]
+
 mod blocks;
 mod tell;
 

@@ -1,4 +1,6 @@
 // Lines that are read and steps that are written: every refusal, and each two neighbours in the order of refusals that can fail together.
+#![tactic(auto)]
+
 mod long;
 mod tell;
 

@@ -1,5 +1,7 @@
 // Whole scripts and their listings: every refusal that a script can meet from its input, and each two neighbours in the order of
 // refusals that can fail together.
+#![tactic(auto)]
+
 ghost use Rattle.std.specs.Prelude.{◌≤◌};
 
 use libc::STDOUT_FILENO;

@@ -1,4 +1,6 @@
 // Lists of steps: the whole case, one unit that sends as often as it can, and runs.
+#![tactic(auto)]
+
 mod lists;
 mod print;
 mod runs;

@@ -1,5 +1,7 @@
 // Numbers of 64 bits in digits: every power of ten with its neighbours, and of every length in bits the largest number and the
 // least.
+#![tactic(auto)]
+
 ghost use Rattle.std.specs.Prelude.{◌≤◌, ◌<◌};
 
 use casetext::put_row;

@@ -1,4 +1,6 @@
 // The pairs of standard input: two steps in both orders, each told with what they answer and whether both orders leave the same board.
+#![tactic(auto)]
+
 mod building;
 mod lines;
 mod pairs;

@@ -25,7 +25,7 @@ const RUN: usize = 3;
 const EACH: usize = 4;
 
 // What the lines so far led to: the last of these words, the stage, and the board.
-#[derive(Drop)]
+#[derive(Clone, Copy)]
 struct Play {
     word: usize,
     stage: Board,

@@ -1,4 +1,6 @@
 // The cases of standard input: openings, steps, depths and damages, each told with what the calls answer.
+#![tactic(auto)]
+
 mod changes;
 mod edits;
 mod lines;

@@ -1,5 +1,7 @@
 // What programs that execute cases write alike: written whole at a place of a buffer, or refused by 27 with the buffer as it was.
 // In `entries` a board as numbers.
+#![tactic(auto)]
+
 mod entries;
 
 ghost use Rattle.std.specs.Prelude.{◌≡◌, ◌+◌, ◌≤◌, leb, length};

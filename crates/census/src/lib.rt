@@ -1,5 +1,7 @@
 // A census of short lists (M-106): of all lists of so many steps on a fresh board, how many leave it finished, how many busy, and how many
 // neither.
+#![tactic(auto)]
+
 mod choices;
 mod counting;
 mod parts;
@@ -13,7 +15,7 @@ use counting::ends;
 pub use parts::{lists, shares};
 
 // How the lists end: so many leave the board finished, so many with a unit active or work under way, and the others.
-#[derive(Drop)]
+#[derive(Clone, Copy)]
 pub struct Ends {
     pub finished: u32,
     pub busy: u32,
@@ -21,7 +23,7 @@ pub struct Ends {
 }
 
 // The same in thousandths of all lists, each to the nearest.
-#[derive(Drop)]
+#[derive(Clone, Copy)]
 pub struct PerMille {
     pub finished: u16,
     pub busy: u16,
@@ -29,7 +31,7 @@ pub struct PerMille {
 }
 
 // What a census gives, or the number that refused it.
-#[derive(Drop)]
+#[derive(Clone, Copy)]
 pub enum Counted {
     Lists(Ends),
     Refused(u16),

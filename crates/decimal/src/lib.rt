@@ -1,4 +1,6 @@
 // Decimal numbers as bytes: a field read as a number of 16 bits, a number of 64 bits written in digits, by itself or behind a tab.
+#![tactic(auto)]
+
 ghost use Rattle.std.specs.Prelude.{◌≡◌, ◌∷◌, ◌+◌, ◌^◌, ◌≤◌, ◌<◌, length};
 ghost use Rattle.std.proofs.lemmas.List.Edits.{sets};
 ghost use Rattle.placing.specs.Placing.{Writes};
@@ -10,7 +12,7 @@ use fields::TAB;
 use placing::Wrote;
 
 // What a number field gives: its value, or the number that refuses.
-#[derive(Drop)]
+#[derive(Clone, Copy)]
 pub enum Number {
     Value(u16),
     Refused(u16),

@@ -8,7 +8,7 @@ use crate::turns::{LegCursor, no_step, place};
 use rules::{Board, Kind, Slot, UnitRecord};
 
 // One wait or one return on the way to unit 0: of the two the one that `under` tells.
-#[derive(Drop)]
+#[derive(Clone, Copy)]
 pub(crate) struct Leg {
     pub(crate) unit: u16, // the unit that waits, or that the return is for
     pub(crate) left: u16, // the ticks that are left
@@ -20,14 +20,14 @@ pub(crate) struct Leg {
 pub(crate) const TABLE: usize = 385;
 
 // The table, and the cursor with which the writing begins.
-#[derive(Drop)]
+#[derive(Clone, Copy)]
 pub(crate) struct Plan {
     pub(crate) legs: [Leg; TABLE],
     pub(crate) cursor: LegCursor,
 }
 
 // A table that is being filled, with so many legs to begin with.
-#[derive(Drop)]
+#[derive(Clone, Copy)]
 struct Table {
     legs: [Leg; TABLE],
     count: usize,

@@ -1,4 +1,6 @@
 // The longest drain of a board (M-109): how many steps a boat may still need, and one list of so many.
+#![tactic(auto)]
+
 mod checks;
 mod legs;
 mod lengths;
@@ -18,14 +20,14 @@ use rules::{BATCH, Board, StepRecord};
 pub use short::short_drain;
 
 // How many steps the longest drain has, or the number that refuses to tell.
-#[derive(Drop)]
+#[derive(Clone, Copy)]
 pub enum Longest {
     Steps(usize),
     Refused(u16),
 }
 
 // A longest drain by value. Entries behind it are 0 and mean nothing, and so are all where none is shown.
-#[derive(Drop)]
+#[derive(Clone, Copy)]
 pub struct ShortDrain {
     pub longest: Longest,
     pub steps: [StepRecord; BATCH],

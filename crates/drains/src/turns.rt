@@ -8,7 +8,7 @@ use rules::StepRecord;
 
 // Where the writing has come to: the step written last, the leg that comes now, which of the legs to begin with is next, and where in the
 // table the leg is that may follow; the slot for releases and the delay.
-#[derive(Drop)]
+#[derive(Clone, Copy)]
 pub(crate) struct LegCursor {
     pub(crate) step: StepRecord,
     pub(crate) leg: Leg,

@@ -1,4 +1,6 @@
 // Finds the fields of a line, parted by tabs, and the ends of lines: pure bytes.
+#![tactic(auto)]
+
 ghost use Rattle.std.specs.Prelude.{◌≡◌, ◌+◌};
 ghost use Rattle.fields.specs.Fields.{field_of, field_start, end_from};
 

@@ -12,7 +12,7 @@ use rules::{BATCH, Board, Outcome};
 use steps::run_batch;
 
 // Where the script's lines have come to: the place of the next one, and the board before it.
-#[derive(Drop)]
+#[derive(Clone, Copy)]
 struct Reached {
     at: usize,
     board: Board,

@@ -11,7 +11,7 @@ use script::{Reading, read_line};
 
 // Lines as step records, the numbers that refuse those among them that are no step, and the place behind them.
 // The refusals come first: with the steps before them two copies of the steps were slow for their distance (docs/PERFORMANCE.md, "Copies").
-#[derive(Drop)]
+#[derive(Clone, Copy)]
 pub(crate) struct Gathered {
     pub(crate) refusals: [u16; BATCH],
     pub(crate) steps: [StepRecord; BATCH],

@@ -1,4 +1,6 @@
 // The listing of a script, in parts and at once; and what a script leaves at its end.
+#![tactic(auto)]
+
 mod bounds;
 mod cursors;
 mod endings;
@@ -18,7 +20,7 @@ pub use whole::{list_all, listing_length};
 
 // Where a listing that is written in parts has come to: its beginning, or behind a script line. Then `at` is the place of the next
 // script line and `line` its number.
-#[derive(Drop)]
+#[derive(Clone, Copy)]
 pub struct Cursor {
     pub begun: bool,
     pub at: usize,
@@ -27,7 +29,7 @@ pub struct Cursor {
 }
 
 // One part of a listing: how many bytes were written, or the number that refused the call, and the cursor behind it.
-#[derive(Drop)]
+#[derive(Clone, Copy)]
 pub struct Part {
     pub wrote: Wrote,
     pub cursor: Cursor,

@@ -11,7 +11,7 @@ use rules::{BATCH, Verdict};
 use texts::write_line;
 
 // The number of the next line, and the place behind the last byte written.
-#[derive(Drop)]
+#[derive(Clone, Copy)]
 pub(crate) struct Rows {
     pub(crate) line: u32,
     pub(crate) to: usize,

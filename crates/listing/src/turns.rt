@@ -12,7 +12,7 @@ use steps::run_batch;
 pub(crate) const LONGEST: usize = 37;
 
 // Where a part has come to: the cursor's place, line number and board, and the place behind the last byte written.
-#[derive(Drop)]
+#[derive(Clone, Copy)]
 pub(crate) struct Progress {
     pub(crate) at: usize,
     pub(crate) line: u32,

@@ -1,4 +1,6 @@
 // The number fields of a line, and the lines of a text: bytes, with no word and no board.
+#![tactic(auto)]
+
 mod lines;
 mod reading;
 mod zeros;
@@ -11,7 +13,7 @@ pub const ROOM: usize = 128;
 
 // The number fields of a line: how many there are, the number that refuses the line, or 0, and their values with zeros behind
 // them. A refused line has no values.
-#[derive(Drop)]
+#[derive(Clone, Copy)]
 pub struct Numbers {
     pub count: usize,
     pub refusal: u16,
@@ -19,7 +21,7 @@ pub struct Numbers {
 }
 
 // Where a line of a text ends, and where the line behind it begins.
-#[derive(Drop)]
+#[derive(Clone, Copy)]
 pub struct LineAt {
     pub end: usize,
     pub next: usize,

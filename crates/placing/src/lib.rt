@@ -1,10 +1,12 @@
 // Bytes written at a place of a buffer, or refused with every byte kept.
+#![tactic(auto)]
+
 ghost use Rattle.std.specs.Prelude.{◌≡◌, ◌+◌, ◌≤◌, length};
 ghost use Rattle.std.proofs.lemmas.List.Edits.{sets};
 ghost use Rattle.placing.specs.Placing.{Writes};
 
 // What a writer answers: the bytes that it wrote, or the number that refuses.
-#[derive(Drop)]
+#[derive(Clone, Copy)]
 pub enum Wrote {
     Count(usize),
     Refused(u16),

@@ -1,5 +1,7 @@
 // The reading of the standard input into a buffer, where a read that fails is told from the end. Which bytes it read no contract can say,
 // so the call of `libc::read` is to be read.
+#![tactic(auto)]
+
 ghost use Rattle.std.specs.Prelude.{◌≡◌, ◌≤◌, length};
 ghost use Rattle.reading.specs.Input.{ReadBetween};
 ghost use Rattle.reading.specs.Reads.{told_by, ReadsOn};
@@ -7,7 +9,7 @@ ghost use Rattle.reading.specs.Reads.{told_by, ReadsOn};
 use libc::STDIN_FILENO;
 
 // What reading gave: so many bytes at the start of the buffer; or nothing, since a read failed, and errno says why.
-#[derive(Drop)]
+#[derive(Clone, Copy)]
 pub enum Input {
     Bytes(usize),
     Failed,

@@ -1,4 +1,6 @@
 // The two counting rounds beside the weights (M-105), by value: a beginning opens round one, visits go over the units.
+#![tactic(auto)]
+
 mod marks;
 mod visiting;
 

@@ -47,7 +47,7 @@ module _ (b : Board) (r : StepRecord) (h : Sound b) (z : (sheet_step (view b) r)
 pub step_keeps_sound : (b : Board) (r : StepRecord) → Sound b → Sound (step b r).board
 step_keeps_sound b r h =
     accepted_or_not steps b r
-    (λ e. subst (λ (o : Outcome). Sound o.board) (sym (step_shown b r h)) (record { sheet = of-sheets.step-keeps-sound (view b) r h.sheet; rounds = rounds_after_lem b r h (sym (answer_shown b r h) ∙ e) }))
+    (λ e. subst (λ (o : Outcome). Sound o.board) (sym (step_shown b r h)) (record { sheet = of-sheets.step_keeps_sound (view b) r h.sheet; rounds = rounds_after_lem b r h (sym (answer_shown b r h) ∙ e) }))
     (λ n. subst Sound (sym (refused_keeps b r n)) h)
 
 pub event_keeps_sound : (b : Board) (e : Event) → Sound b → Sound (next_by b e)

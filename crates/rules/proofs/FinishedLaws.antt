@@ -20,7 +20,7 @@ unfolding verdict
 verdict_sound b h = rw (sound_tested b h)
 
 pub verdict_shown : (b : Board) → Sound b → verdict b ≡ sheet_verdict (view b)
-verdict_shown b h = verdict_sound b h ∙ sym (of-sheets.verdict-sound (view b) h.sheet)
+verdict_shown b h = verdict_sound b h ∙ sym (of-sheets.verdict_sound (view b) h.sheet)
 
 pub finished_complete : (b : Board) → Sound b → (verdict b ≡ Finished) ↔ Complete b
 finished_complete b h =

@@ -13,8 +13,8 @@ pub sound_claims : (b : Board) → sound b ≡ true → Sound b
 unfolding sound
 sound_claims b e =
     let t = claims (sound_row b) e in
-    record { sheet = of-sheets.sound-claims (view b) t.0; rounds = rounds_claims (seen_of (view b)) b.rounds t.1.0 }
+    record { sheet = of-sheets.sound_claims (view b) t.0; rounds = rounds_claims (seen_of (view b)) b.rounds t.1.0 }
 
 pub sound_tested : (b : Board) → Sound b → sound b ≡ true
 unfolding sound
-sound_tested b h = claims_tested (sound_row b) (of-sheets.sound-tested (view b) h.sheet, (rounds_tested (seen_of (view b)) b.rounds h.rounds, tt))
+sound_tested b h = claims_tested (sound_row b) (of-sheets.sound_tested (view b) h.sheet, (rounds_tested (seen_of (view b)) b.rounds h.rounds, tt))

@@ -62,7 +62,7 @@ guarantee m d ps es e =
         shown_tally grant_count f es start.0,
       );
       finished = finished_complete (after_all events f es) h;
-      drains_end = λ q. drains_shown (after_all events f es) h (draining.quiet-drains (view (after_all events f es)) h.sheet q);
+      drains_end = λ q. drains_shown (after_all events f es) h (draining.quiet_drains (view (after_all events f es)) h.sheet q);
     }
 
 -- ---- the guarantee as calls carry it
@@ -123,7 +123,7 @@ moves_change_parent b r m z =
     let h : Sound b = accepted_sound b r z in
     let told : AcceptedAs (view b) r Move = accepted_as (view b) r h.sheet Move m (sym (answer_shown b r h) ∙ z) in
     ap (λ (o : Outcome). o.board) (step_shown b r h)
-    ∙ (λ i. board_of (changing.move-does (view b) r told i) (other_leaves r (sheet_step (view b) r).answer b.rounds (ap (is_action Start) m) i))
+    ∙ (λ i. board_of (changing.move_does (view b) r told i) (other_leaves r (sheet_step (view b) r).answer b.rounds (ap (is_action Start) m) i))
 
 pub moves_keep_verdict : MovesKeepVerdict
 unfolding MovesKeepVerdict MovesChangeParent
@@ -139,11 +139,11 @@ unfolding AcceptedChanges MovesChangeParent
 accepted_changes b r z =
     let h : Sound b = accepted_sound b r z in (
       λ e.
-          let m = changing.accepted-changes (view b) r (sym (answer_shown b r h) ∙ z) (sym (step_view b r h) ∙ ap view e) in
+          let m = changing.accepted_changes (view b) r (sym (answer_shown b r h) ∙ z) (sym (step_view b r h) ∙ ap view e) in
           record { moves = m.0; same_parent = m.1 },
       λ m. moves_change_parent b r m.moves z ∙ ap (under_parent b r.unit) m.same_parent ∙ rw (set-get_or b.parents r.unit 0),
     )
 
 pub below_bound : BelowBound
 unfolding BelowBound
-below_bound b h q rs z = draining.below-bound (view b) h.sheet q rs ((drain_shown b rs h).0 z)
+below_bound b h q rs z = draining.below_bound (view b) h.sheet q rs ((drain_shown b rs h).0 z)

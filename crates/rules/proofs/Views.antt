@@ -37,7 +37,7 @@ unsound_keeps b r e = rw e
 -- it is the sheet's step
 pub step_shown : (b : Board) (r : StepRecord) → Sound b → step b r ≡ on_board b.rounds (action_of r.kind) (sheet_step (view b) r)
 unfolding sound_step
-step_shown b r h = step_sound b r h ∙ ap (λ (o : SheetOutcome). on_board b.rounds (action_of r.kind) o) (sym (of-sheets.step-sound (view b) r h.sheet))
+step_shown b r h = step_sound b r h ∙ ap (λ (o : SheetOutcome). on_board b.rounds (action_of r.kind) o) (sym (of-sheets.step_sound (view b) r h.sheet))
 
 -- ---- a beginning on a sound board
 pub begin_sound : (b : Board) → Sound b → begin b ≡ record { answer = 0; board = board_of (view b) begun }

@@ -1,5 +1,7 @@
 // The records of the weight board. What they mean is in specs/: each definition there cites its part of the rules.
 // "The rules' own term" marks the place of a word that the rules bring in.
+#![tactic(auto)]
+
 mod counting;
 
 ghost use Rattle.std.specs.Prelude.{◌≡◌};
@@ -7,7 +9,7 @@ ghost use Rattle.rules.specs.Records.{is_idle, is_active, is_waiting, is_empty};
 ghost use Rattle.rules.specs.Effects.{shared};
 
 // The state of a unit. Waiting, the rules' own term, is the state between resting and giving its weight back.
-#[derive(Drop)]
+#[derive(Clone, Copy)]
 pub enum State {
     Idle,
     Active,
@@ -15,7 +17,7 @@ pub enum State {
 }
 
 // The kind of a slot: what message, if any, is under way in it.
-#[derive(Drop)]
+#[derive(Clone, Copy)]
 pub enum Kind {
     Empty,
     Work,
@@ -25,7 +27,7 @@ pub enum Kind {
 }
 
 // A unit: 16 bytes, since the board is copied by value.
-#[derive(Drop)]
+#[derive(Clone, Copy)]
 pub struct UnitRecord {
     pub weight: u64, // the rules' own term: its part of the debt, given away in shares and handed back
     pub countdown: u16, // of a waiting unit: the ticks until it may release
@@ -34,7 +36,7 @@ pub struct UnitRecord {
 }
 
 // A slot of the cable: 16 bytes.
-#[derive(Drop)]
+#[derive(Clone, Copy)]
 pub struct Slot {
     pub weight: u64, // under way with the message: none with a request
     pub from: u16, // the unit that sent it
@@ -43,7 +45,7 @@ pub struct Slot {
 }
 
 // Which counting round is open (M-105).
-#[derive(Drop)]
+#[derive(Clone, Copy)]
 pub enum Round {
     None,
     One,
@@ -51,7 +53,7 @@ pub enum Round {
 }
 
 // The counting rounds (M-105): a second way to see that all is quiet, beside the weights. No step but a start touches them.
-#[derive(Drop)]
+#[derive(Clone, Copy)]
 pub struct Rounds {
     pub round: Round, // which is open
     pub visited: [bool; 64], // the units that the open round has visited; false from n on
@@ -62,7 +64,7 @@ pub struct Rounds {
 // The weight board. A caller may hand over any; which are sound is tested.
 // A number stands before the entries that it counts. With the gaps of this order a board has 6,136 bytes; with 6,120, the least, one copy
 // in each step was slow for its distance (docs/PERFORMANCE.md, "Copies").
-#[derive(Drop)]
+#[derive(Clone, Copy)]
 pub struct Board {
     pub n: u16, // units in use, 1 to 64; unit 0 is the root, and tells the end
     pub parents: [u16; 64], // the parent of each unit, lower than the unit; 0 for unit 0
@@ -79,7 +81,7 @@ pub struct Board {
 // One step as a caller asks for it: a kind from 1 to 8, and the fields that the kind has a letter for.
 // Callers in other languages lend lists of it, so its layout is C's.
 #[repr(C)]
-#[derive(Drop)]
+#[derive(Clone, Copy)]
 pub struct StepRecord {
     pub kind: u16, // start, send, request, deliver, rest, tick, release, move, from 1 on
     pub unit: u16, // u: the unit that takes the step
@@ -91,7 +93,7 @@ pub struct StepRecord {
 pub const KINDS: u16 = 8;
 
 // A step's kind by name; Unknown stands for every number outside 1 to KINDS.
-#[derive(Drop)]
+#[derive(Clone, Copy)]
 pub enum Action {
     Unknown,
     Start,
@@ -106,7 +108,7 @@ pub enum Action {
 
 // What a step does to a sound board: it is refused, or it leaves one unit, one slot or both as given, and the debt; or it gives its unit
 // another parent (M-108).
-#[derive(Drop)]
+#[derive(Clone, Copy)]
 pub enum Effect {
     Refused(u16),
     OnUnit(UnitRecord, u64),
@@ -116,7 +118,7 @@ pub enum Effect {
 }
 
 // The counts of a unit.
-#[derive(Drop)]
+#[derive(Clone, Copy)]
 pub struct Counts {
     pub created: u32, // accepted sends and starts
     pub processed: u64, // accepted deliveries of work, and starts
@@ -124,7 +126,7 @@ pub struct Counts {
 
 // What an effect leaves: the answer, and the unit's parent, the debt, the unit, the slot and the unit's counts after the step; as they were
 // where it is refused.
-#[derive(Drop)]
+#[derive(Clone, Copy)]
 pub struct Change {
     pub answer: u16,
     pub parent: u16,
@@ -136,21 +138,21 @@ pub struct Change {
 
 // What an opening or a step gives: the board after it, and 0 or the number that refused it.
 // The board comes first: behind a gap the compiler copies it once more.
-#[derive(Drop)]
+#[derive(Clone, Copy)]
 pub struct Outcome {
     pub board: Board,
     pub answer: u16,
 }
 
 // The answer to a question for a unit's depth.
-#[derive(Drop)]
+#[derive(Clone, Copy)]
 pub enum Depth {
     Deep(u16),
     Refused(u16),
 }
 
 // The answer to the question whether the sheet is complete.
-#[derive(Drop)]
+#[derive(Clone, Copy)]
 pub enum Verdict {
     Working,
     Finished,
@@ -158,7 +160,7 @@ pub enum Verdict {
 }
 
 // What a visit of a counting round finds (M-105). AllQuiet is the verdict "quiet".
-#[derive(Drop)]
+#[derive(Clone, Copy)]
 pub enum Finding {
     NoVerdict,
     AllQuiet,
@@ -167,14 +169,14 @@ pub enum Finding {
 }
 
 // What a visit gives: the board after it, and what it found.
-#[derive(Drop)]
+#[derive(Clone, Copy)]
 pub struct Visited {
     pub board: Board,
     pub finding: Finding,
 }
 
 // What a run over a list gives: how many zeros it wrote among the answers, or the number that refused it.
-#[derive(Drop)]
+#[derive(Clone, Copy)]
 pub enum Ran {
     Zeros(usize),
     Refused(u16),
@@ -194,7 +196,7 @@ pub const BATCH: usize = 512;
 
 // What a batch gives: as a run, with the answer to each step and the debt after it. Entries behind those are 0 and mean nothing,
 // and so are all entries where the batch is refused.
-#[derive(Drop)]
+#[derive(Clone, Copy)]
 pub struct Batch {
     pub ran: Ran,
     pub board: Board,
@@ -203,7 +205,7 @@ pub struct Batch {
 }
 
 // A unit that gave a share.
-#[derive(Drop)]
+#[derive(Clone, Copy)]
 pub struct Shared {
     pub unit: UnitRecord, // with the weight that it keeps
     pub given: u64, // the rules' own term: the share, the weight that it gives away

@@ -1,4 +1,6 @@
 // The lines of a script: what a line says, the parents of a board line, and a step written as a line.
+#![tactic(auto)]
+
 mod lines;
 mod words;
 mod writing;
@@ -12,7 +14,7 @@ use rules::StepRecord;
 pub use writing::write_step;
 
 // What a line of a script says: a board line with M, d and the number of its parents, a step, or the number that refuses the line.
-#[derive(Drop)]
+#[derive(Clone, Copy)]
 pub enum Reading {
     Opens(u16, u16, u16),
     Asks(StepRecord),
@@ -33,7 +35,7 @@ impl Reading {
 }
 
 // A first line, with the parents of a line that opens a board and zeros behind them; of any other line all are zeros.
-#[derive(Drop)]
+#[derive(Clone, Copy)]
 pub struct BoardLine {
     pub reading: Reading,
     pub parents: [u16; ROOM],

@@ -11,7 +11,7 @@ use placing::Wrote;
 use rules::{KINDS, StepRecord};
 
 // The values of a step's letters in their order: the first `count` of the list.
-#[derive(Drop)]
+#[derive(Clone, Copy)]
 struct Letters {
     count: usize,
     list: [u16; 3],

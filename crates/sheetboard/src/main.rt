@@ -1,6 +1,8 @@
 // The program: reads a script from standard input, lists it in parts, and hands each part to standard output. Nothing of the rules is decided here.
 // What passes between a process and its files no contract can say, so four lines are to be read: the call of `libc::read` (in the crate reading), the call of
 // `list_read` in `main`, which lists what was read, the call of `hand_over`, which is handed the start of the buffer, and that of `io::write_all`.
+#![tactic(auto)]
+
 ghost use Rattle.std.specs.Prelude.{◌≡◌, length};
 ghost use Rattle.reading.specs.Input.{ReadBetween};
 ghost use Rattle.listing.specs.Turns.{bytes_of};
@@ -12,14 +14,14 @@ use placing::Wrote;
 use reading::{Input, read_input};
 
 // What the output was handed: how many bytes, and whether it took all of them.
-#[derive(Drop)]
+#[derive(Clone, Copy)]
 struct Handed {
     taken: bool,
     count: usize,
 }
 
 // A part handed to the output: how many bytes, whether the output took them, and the cursor behind it.
-#[derive(Drop)]
+#[derive(Clone, Copy)]
 struct Turn {
     taken: bool,
     count: usize,

@@ -1,5 +1,7 @@
 // The census table for a trainer: for every board that a census takes and every length, how the lists of steps end. The library decides all
 // numbers; the words and the layout are decided here.
+#![tactic(auto)]
+
 mod cells;
 mod rows;
 

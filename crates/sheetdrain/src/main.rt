@@ -3,6 +3,8 @@
 // What passes between a process and its files no contract can say, so five lines are to be read: the call of `libc::read` (in the crate
 // reading), the call of `tell_read` in `main`, which is handed what was read, that of `tell` in it, and in `tell` the call of `put_told`,
 // which is handed the script, and that of `io::write_all`.
+#![tactic(auto)]
+
 mod lines;
 
 ghost use Rattle.std.specs.Prelude.{◌≡◌, ◌≤◌, length};

@@ -85,7 +85,7 @@ pub fn run(b: &mut Board, steps: &[StepRecord], answers: &mut [u16]) -> Ran
 }
 
 // What a run gives, and the board after it.
-#[derive(Drop)]
+#[derive(Clone, Copy)]
 pub struct RanOn {
     pub ran: Ran,
     pub board: Board,

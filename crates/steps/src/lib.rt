@@ -1,4 +1,6 @@
 // A step by value; in `lent` a step and a run on what is lent, in `batch` a run by value, in `answers` steps that are asked for and not taken.
+#![tactic(auto)]
+
 mod answers;
 mod batch;
 mod changes;

@@ -1,4 +1,6 @@
 // The texts of a listing, each written whole or refused by 27 with the buffer as it was.
+#![tactic(auto)]
+
 ghost use Rattle.std.specs.Prelude.{◌≡◌, [], ◌∷◌, ◌++◌, ◌+◌, ◌≤◌, length};
 ghost use Rattle.std.proofs.lemmas.List.Edits.{sets};
 ghost use Rattle.placing.specs.Placing.{Writes};
