@@ -6,4 +6,4 @@ use Rattle.reading.specs.declared.Input.TheVariants.{Bytes, Failed}
 -- the bytes read are at least and at most so many; of a failed reading nothing is said
 abbrev pub ReadBetween : ℕ → ℕ → Input → Type 0
 ReadBetween least most (Bytes n) = (least ≤ n) × (n ≤ most)
-ReadBetween least most Failed = Unit {0}
+ReadBetween least most (Failed e) = Unit {0}
