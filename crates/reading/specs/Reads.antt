@@ -1,6 +1,8 @@
 -- One read of the input, behind the bytes that were read before.
 -- For private contracts only; a reader of the claim may skip this.
-use Rattle.std.specs.Prelude.{◌≡◌, List, ℕ, ◌+◌, ◌-◌, min, length, take, Result, Ok, Err}
+use Rattle.std.specs.Prelude.{◌≡◌, List, ℕ, ◌+◌, ◌-◌, ◌<◌, min, length, take, drop, Result, Ok, Err}
+use Rattle.std.specs.Io.KnownBytes.{Consumes, IsAtEnd}
+use Rattle.std.specs.declared.option.Option.{Option}
 use Rattle.std.specs.declared.io.Error.{Error}
 use Rattle.reading.specs.Input.{ReadBetween}
 use Rattle.reading.specs.declared.Input.{Input}
@@ -15,3 +17,8 @@ told_by at room (Err e) = Failed e
 pub record ReadsOn (at : ℕ) (before : List ℕ) (read : Input) (after : List ℕ) : Type 0 where
   pub kept : take at after ≡ take at before
   pub within : ReadBetween at (length before) read
+
+-- the bytes that it puts there are the next that the reader had left; none only where it has none left or there is no room
+abbrev pub GivesOn : ℕ → Option (List ℕ) → Option (List ℕ) → Input → List ℕ → Type 0
+GivesOn at before after (Bytes n) buf = Consumes before after (take (n - at) (drop at buf)) × (n ≡ at → at < length buf → IsAtEnd after)
+GivesOn at before after (Failed e) buf = Unit {0}

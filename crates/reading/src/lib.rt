@@ -3,8 +3,8 @@
 #![tactic(auto)]
 
 ghost use Rattle.std.specs.Prelude.{◌≡◌, ◌≤◌, length};
-ghost use Rattle.reading.specs.Input.{ReadBetween};
-ghost use Rattle.reading.specs.Reads.{told_by, ReadsOn};
+ghost use Rattle.reading.specs.Input.{ReadBetween, Gives};
+ghost use Rattle.reading.specs.Reads.{told_by, ReadsOn, GivesOn};
 
 use std::io;
 use std::io::Read;
@@ -30,7 +30,8 @@ fn told(got: io::Result<usize>, buf: &[u8], at: usize) -> Input
 // One read from the input, to behind the bytes that were read before.
 fn read_more<R: Read>(input: &mut R, buf: &mut [u8], at: usize) -> Input
     requires { at ≤ length buf.old }
-    ensures { ReadsOn at buf.old result buf.new }
+    ensures reads { ReadsOn at buf.old result buf.new }
+    ensures bytes { GivesOn at (R.remaining input.old) (R.remaining input.new) result buf.new }
 {
     let got = input.read(&mut buf[at..]);
     told(got, buf, at)
@@ -39,7 +40,8 @@ fn read_more<R: Read>(input: &mut R, buf: &mut [u8], at: usize) -> Input
 // Reads until the input ends, the buffer is full, or a read fails. A read may give less than is still to come, as from a pipe: only one of
 // no bytes is the end.
 pub fn read_input<R: Read>(input: &mut R, buf: &mut [u8]) -> Input
-    ensures { ReadBetween 0 (length buf.new) result }
+    ensures bound { ReadBetween 0 (length buf.new) result }
+    ensures bytes { Gives (R.remaining input.old) (R.remaining input.new) result buf.new }
 {
     let mut count: usize = 0;
     while count < buf.len() {
