@@ -1,5 +1,5 @@
 -- On a sound board the parents of the units in use are lower, which `depth_along` asks.
-use Rattle.std.proofs.Common.{◌≡◌, true, sym, ap, ◌∙◌, arith, suc-le-suc}
+use Rattle.std.proofs.Common.{◌≡◌, true, false, ap, arith, suc-le-suc}
 use borrow.Author.Tests.{le-leb, lt-leb}
 use Rattle.rules.specs.Boards.{view}
 use Rattle.rules.specs.Sound.{Sound, sound}
@@ -11,7 +11,9 @@ use Rattle.board.proofs.depths.depth_of.Goals as goal
 
 pub returns-then-not-sound : goal.returns-then-not-sound
 unfolding depth_answer
-returns-then-not-sound c = rw (sym c.is_sound-sound.ensures ∙ c.if-sound.true)
+returns-then-not-sound c =
+    let so : sound c.args.b ≡ false = cc in
+    rw so
 
 pub returns-then-u-n : goal.returns-then-u-n
 unfolding depth_answer
