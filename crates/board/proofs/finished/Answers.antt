@@ -1,5 +1,5 @@
 -- A sound board by its debt, any other by 30; the guarantee, whatever the answer.
-use Rattle.std.proofs.Common.{◌≡◌, true, false, [], sym, subst, ◌∙◌, arith}
+use Rattle.std.proofs.Common.{◌≡◌, true, false, [], sym, subst, arith}
 use borrow.Author.Tests.{eq-eqb, ne_eqb}
 use Rattle.rules.specs.Events.{after_all}
 use Rattle.rules.specs.Sound.{sound}

@@ -1,5 +1,5 @@
 -- By the unit that is found, or none.
-use Rattle.std.proofs.Common.{◌≡◌, ◌<◌, length, sym, ◌∙◌, arith, rules}
+use Rattle.std.proofs.Common.{◌≡◌, length, sym, ◌∙◌, arith, rules}
 use Rattle.rules.specs.Records.{is_active, blank_unit}
 use Rattle.rules.proofs.BusyLaws.{some_such, none_such}
 use Rattle.board.proofs.busy.some_active.Goals as goal

@@ -1,5 +1,5 @@
 -- By the slot that is found, or none.
-use Rattle.std.proofs.Common.{◌≡◌, ◌<◌, length, sym, ◌∙◌, arith, rules}
+use Rattle.std.proofs.Common.{◌≡◌, length, sym, ◌∙◌, arith, rules}
 use Rattle.rules.specs.Records.{is_work, blank_slot}
 use Rattle.rules.proofs.BusyLaws.{some_such, none_such}
 use Rattle.board.proofs.busy.some_work.Goals as goal

@@ -1,7 +1,7 @@
 -- What a turn adds to what holds, and the verdict at the end.
-use Rattle.std.proofs.Common.{◌≡◌, ◌+◌, ◌≤◌, Bool, true, false, cond, length, get_or, sym, ap, ◌∙◌, arith, rules}
+use Rattle.std.proofs.Common.{◌≡◌, true, false, length, arith, rules}
 use Rattle.rules.specs.Facts.{tests}
-use Rattle.board.specs.Passes.{count_row, counts_row}
+use Rattle.board.specs.Passes.{counts_row}
 use Rattle.rules.proofs.FactLaws.{claims}
 use Rattle.board.proofs.TestLaws.{refuted, denied}
 use Rattle.board.proofs.counts.CountLaws.{CountsSeen, unit_counts}

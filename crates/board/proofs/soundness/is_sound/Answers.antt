@@ -1,8 +1,8 @@
 -- What a sound board says of the next slot and of the next unit, what a turn adds, and the verdict at the end.
-use Rattle.std.proofs.Common.{◌≡◌, ℕ, ◌-◌, List, ◌∷◌, true, false, get_or, refl, sym, ◌∙◌, arith, rules}
-use Rattle.rules.specs.Facts.{Fact, at_most, Claims, tests}
+use Rattle.std.proofs.Common.{◌≡◌, ℕ, List, ◌∷◌, true, false, get_or, refl, sym, arith, rules}
+use Rattle.rules.specs.Facts.{at_most, tests}
 use Rattle.rules.specs.Sheets.Sheet.{parent_at, unit_at, slot_at}
-use Rattle.rules.specs.Records.{is_work, ceiling}
+use Rattle.rules.specs.Records.{ceiling}
 use Rattle.rules.specs.declared.Board.{Board}
 use Rattle.rules.specs.Sheets.Sound.{sizes, slot_row_on}
 use Rattle.rules.specs.Boards.{view}
@@ -52,10 +52,10 @@ loop-j-preserved c =
     let u : ℕ = c.pends_for-u.result in
     let pends : u ≡ pends_at (view b) at.j = c.pends_for-u.ensures in
     let counted : CountedFor (pends_at (view b) at.j) at.pending c.if-u-lt64.pending =
-        elim c.if-u-lt64.branch [
-          then-u-lt64 w ↦ rw (← pends, w.pending-is) (unit_counted u at.pending (omega arith))
-        | else-u-lt64 w ↦ rw (← pends, w.pending-is) (none_pending u at.pending (omega arith))
-        ] in
+    elim c.if-u-lt64.branch [
+      | then-u-lt64 w ↦ rw (← pends, w.pending-is) (unit_counted u at.pending (omega arith))
+      | else-u-lt64 w ↦ rw (← pends, w.pending-is) (none_pending u at.pending (omega arith))
+    ] in
     rw c.work_in-work.ensures
     (slot_laws.one_more (view b) long at.left at.work at.pending at.j at.invariant c.if-u-lt64.pending counted (omega arith)
     (c.if-y-left.false, claims (slot_row_on (view b) at.j (slot_at (view b) at.j)) (sym c.if-not-slot_fits.ensures)))
