@@ -1,4 +1,4 @@
--- `decimal::digit_count` meets its contract: the bits leave two counts, and one power decides between them.
+-- `digit_count`: the bits leave two counts, and one power decides between them.
 use mathlib.Core.Path.{◌≡◌, refl, sym, ◌∙◌}
 use mathlib.Core.Bool.{Bool, true, ◌&&◌, and-eq-true_iff}
 use Prim.Native.Nat.{ℕ, zero, suc, ◌+◌, ◌-◌, ◌*◌, ◌/◌, ◌^◌, ◌≤◌, ◌<◌}
@@ -6,13 +6,11 @@ use native.Mathlib.Nat.{le_trans, le_of_suc-le-suc, not-suc-le-zero, pow-suc}
 use native.Mathlib.Omega.{arith}
 use native.Mathlib.Numerals.{add-one}
 use borrow.Author.Tests.{leb-true}
-use borrow.Author.Rules.{rules}
-use lib.Count.{count_leading_zeros, leading_length, leading_le}
+use lib.Count.{count_leading_zeros, leading_length}
 use lib.Dec.{leb}
 use Rattle.decimal.specs.Spelling.{digit_count}
 use Rattle.decimal.proofs.CountLaws.{count_exact}
-use Rattle.decimal.proofs.digit_count.Statement.{statement}
-use Rattle.decimal.proofs.digit_count.Tie as tie
+use Rattle.decimal.proofs.digit_count.Goals as goal
 
 -- ---- a test that holds of every number below n
 abbrev all_below : (ℕ → Bool) → ℕ → Bool
@@ -32,8 +30,8 @@ module _ (m : ℕ) where
   abbrev around : ℕ → Bool
   around b = leb (10 ^ digits_by b) (2 ^ b) && leb (2 ^ b) (10 ^ suc (digits_by b))
 
-  powers-around : (b : ℕ) → around b ≡ true → (10 ^ digits_by b ≤ 2 ^ b) × (2 ^ b ≤ 10 ^ suc (digits_by b))
-  powers-around b e =
+  powers_around : (b : ℕ) → around b ≡ true → (10 ^ digits_by b ≤ 2 ^ b) × (2 ^ b ≤ 10 ^ suc (digits_by b))
+  powers_around b e =
       let tests = (and-eq-true_iff (leb (10 ^ digits_by b) (2 ^ b)) (leb (2 ^ b) (10 ^ suc (digits_by b)))).0 e in
       (leb-true _ _ tests.0, leb-true _ _ tests.1)
 
@@ -50,23 +48,25 @@ module _ (m : ℕ) (all : all_below (around m) 65 ≡ true) (n : ℕ) (fits : n 
   bounds =
       let long = leading_length 64 n fits in
       let is : bits_of n ≡ long.0 = omega (arith, long.1) in
-      let powers = powers-around m long.0 (below_at (around m) 65 all long.0 (omega (arith, long.1))) in
+      let powers = powers_around m long.0 (below_at (around m) 65 all long.0 (omega (arith, long.1))) in
       rw is (le_trans long.2 powers.1, le_trans powers.0 long.3)
 
   -- below the power: the one before it is reached
-  bits-under : 1 ≤ n → n < 10 ^ by_bits → digit_count n ≡ by_bits
-  bits-under = by_count by_bits bounds.1
+  bits_under : 1 ≤ n → n < 10 ^ by_bits → digit_count n ≡ by_bits
+  bits_under = by_count by_bits bounds.1
     where
       by_count : (k : ℕ) → 10 ^ k ≤ 2 * n + 1 → 1 ≤ n → n < 10 ^ k → digit_count n ≡ k
       by_count zero l some h = absurd (omega (arith, some, h))
       by_count (suc k) l some h = count_exact n k (omega (arith, fits)) h (λ _. omega (arith, l, pow-suc 10 k))
 
-  bits-from : 10 ^ by_bits ≤ n → digit_count n ≡ suc by_bits
-  bits-from r = count_exact n by_bits (omega (arith, fits)) bounds.0 (λ _. r)
+  bits_from : 10 ^ by_bits ≤ n → digit_count n ≡ suc by_bits
+  bits_from r = count_exact n by_bits (omega (arith, fits)) bounds.0 (λ _. r)
 
-pub digit-count-spec : {M : Type 1} → statement M
-digit-count-spec =
-    tie.close (tie.spec (λ c. sym (count_exact _ 0 (omega arith) (omega arith) (λ some. absurd (omega (arith, some)))))
-    (λ c. omega (arith, leading_le 64 c.before.args.n)) (λ c. leading_le 64 c.before.args.n) (λ c. search rules)
-    (λ c κs. search rules) (λ c. sym (bits-under _ refl _ (omega arith) (omega arith) (omega (arith, c.before.power.ensures))))
-    (λ c. search rules) (λ c. add-one _ ∙ sym (bits-from _ refl _ (omega arith) (omega (arith, c.before.power.ensures)))))
+pub returns-then-n-lt10 : goal.returns-then-n-lt10
+returns-then-n-lt10 c = sym (count_exact _ 0 (omega arith) (omega arith) (λ some. absurd (omega (arith, some))))
+
+pub returns-then-n-power : goal.returns-then-n-power
+returns-then-n-power c = sym (bits_under _ refl _ (omega arith) (omega arith) (omega (arith, c.power.ensures)))
+
+pub returns : goal.returns
+returns c = add-one _ ∙ sym (bits_from _ refl _ (omega arith) (omega (arith, c.power.ensures)))
