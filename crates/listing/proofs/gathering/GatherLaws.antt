@@ -3,7 +3,6 @@ use mathlib.Core.Path.{◌≡◌, refl, sym, ap, ◌∙◌}
 use mathlib.Core.Bool.{false}
 use mathlib.Core.List.{List, [], ◌∷◌, ◌++◌, append_assoc, append-nil}
 use Prim.Native.Nat.{ℕ, zero, suc, ◌+◌, ◌-◌, ◌≤◌, ◌<◌}
-use native.Mathlib.Nat.{sub-zero}
 use native.Mathlib.Numerals.{add-one}
 use native.Mathlib.Omega.{arith}
 use borrow.Author.Tests.{le-leb, lt-leb}
@@ -13,7 +12,6 @@ use Rattle.rules.specs.Runs.{batch_most}
 use Rattle.rules.specs.declared.StepRecord.{StepRecord}
 use Rattle.fields.specs.Fields.{up_to}
 use Rattle.numbers.specs.Lines.{behind}
-use Rattle.numbers.proofs.LineLaws.{line_inside, line_starts, line_part, line_next}
 use Rattle.script.specs.Lines.{reading, refusal_by}
 use Rattle.script.specs.declared.Reading.{Reading}
 use Rattle.listing.specs.Batches.{lines_at, place_after, record_of, records_of, refusals_of}

@@ -1,6 +1,5 @@
 -- The tests in their order, and what is listed where all hold.
 use mathlib.Core.Path.{sym, ◌∙◌}
-use native.Mathlib.Omega.{arith}
 use Rattle.listing.proofs.parts.CaseLaws.{later_ended, later_26, later_30, later_27, later_part}
 use Rattle.listing.proofs.parts.list_later.Goals as goal
 

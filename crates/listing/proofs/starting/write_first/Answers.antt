@@ -8,7 +8,7 @@ use lib.ListN.{length, set, length-append}
 use lib.Seq.{sets, set_comm, length-sets}
 use Rattle.placing.specs.Placing.{wrote, written}
 use Rattle.placing.proofs.WriteLaws.{wrote_fits, wrote_short, written_fits, written_short, fits_or_short}
-use Rattle.texts.specs.Texts.{heading, line_text}
+use Rattle.texts.specs.Texts.{heading}
 use Rattle.listing.specs.Turns.{bytes_of}
 use Rattle.listing.proofs.LengthLaws.{line_some}
 use Rattle.listing.proofs.starting.write_first.Goals as goal
