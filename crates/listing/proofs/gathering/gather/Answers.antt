@@ -8,7 +8,7 @@ use Rattle.listing.proofs.gathering.GatherLaws.{turn_goes, turn_past, turn_full}
 use Rattle.listing.proofs.gathering.gather.Goals as goal
 
 pub returns-then-at-script : goal.returns-then-at-script
-returns-then-at-script c = turn_past c.loop-i.invariant c.if-at-script.true
+returns-then-at-script c = turn_past c.loop-i.invariant (omega arith)
 
 pub slice_bounds-read_line-count : goal.slice_bounds-read_line-count
 slice_bounds-read_line-count c = line_starts _ _ c.line_at-l.ensures (omega arith)

@@ -1,5 +1,6 @@
 -- The tests in their order, and what is listed where all hold.
 use mathlib.Core.Path.{sym, ◌∙◌}
+use native.Mathlib.Omega.{arith}
 use Rattle.listing.proofs.parts.CaseLaws.{later_ended, later_26, later_30, later_27, later_part}
 use Rattle.listing.proofs.parts.list_later.Goals as goal
 
@@ -11,7 +12,7 @@ returns-then-script-gt65535 c = later_26 c.args.c c.args.script.now c.args.out.n
 
 pub returns-then-not-safe : goal.returns-then-not-safe
 returns-then-not-safe c =
-    later_30 c.args.c c.args.script.now c.args.out.now c.requires c.if-c-script.false c.if-script-gt65535.false (sym c.is_sound-safe.ensures ∙ c.if-not-safe.true) c.kept-then-not-safe.ensures
+    later_30 c.args.c c.args.script.now c.args.out.now c.requires c.if-c-script.false (omega arith) (sym c.is_sound-safe.ensures ∙ c.if-not-safe.true) c.kept-then-not-safe.ensures
 
 pub returns-then-p-eq0 : goal.returns-then-p-eq0
 returns-then-p-eq0 c =
