@@ -5,7 +5,7 @@ use native.Mathlib.Omega.{arith}
 use Rattle.rules.specs.Facts.{Claims, judge}
 use Rattle.rules.specs.Sheets.Sheet.{Sheet, unit_at, slot_at, parent_at}
 use Rattle.rules.specs.Sheets.Sound.{Sound}
-use Rattle.rules.specs.Letters.{unit_by, slot_of, place_checks}
+use Rattle.rules.specs.Letters.{unit_by, slot_of}
 use Rattle.rules.specs.Sheets.Steps.{unit_of, made_at, places_on, effect_by, applied}
 use Rattle.rules.specs.Effects.{record_rule}
 use Rattle.rules.specs.declared.StepRecord.{StepRecord}

@@ -1,5 +1,5 @@
 -- A turn writes the answer of its step, which takes the step off what is left.
-use Rattle.std.proofs.Common.{rules, arith, refl, sym, ◌∙◌}
+use Rattle.std.proofs.Common.{rules, refl, sym, ◌∙◌}
 use Rattle.steps.proofs.AnswersLaws.{told_turn, told_end, told_all}
 use Rattle.steps.proofs.answers.answers_on.Goals as goal
 

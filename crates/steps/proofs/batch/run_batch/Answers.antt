@@ -1,12 +1,11 @@
 -- A change stored is the step, so each turn takes one step off what is left; after the last the batch is there.
-use Rattle.std.proofs.Common.{rules, arith, ◌≡◌, ◌≤◌, ℕ, List, refl, sym, ap, subst, ◌∙◌, eqb, take, drop, length, slice_index_or, slice_set}
+use Rattle.std.proofs.Common.{rules, arith, ◌≡◌, refl, sym, ap, subst, ◌∙◌, eqb, take, length, slice_index_or}
 use Rattle.rules.specs.Actions.{action_of}
 use Rattle.rules.specs.Boards.{view, board_of}
 use Rattle.rules.specs.Runs.{batch_most, batch}
 use Rattle.rules.specs.Sheets.Steps.{stored}
 use Rattle.rules.specs.Sound.{Sound}
 use Rattle.rules.specs.Steps.{step}
-use Rattle.rules.specs.declared.Board.{Board}
 use Rattle.rules.specs.declared.Outcome.{Outcome}
 use Rattle.rules.specs.declared.Ran.{Ran}
 use Rattle.rules.specs.declared.StepRecord.{StepRecord}
@@ -56,8 +55,8 @@ left c =
     let sheet = (stored (view c.loop-i.b) c.unit_place-u.result c.slot_place-s.result c.change_at-c.result).sheet in
     let t = c.drops_rounds in
     elim c.if-drops_rounds.branch [
-      then-drops_rounds w ↦ w.b-is ∙ ap (board_of sheet) (rounds_dropped c.change_at-c.result.answer (action_of (asked c).kind) c.loop-i.b.rounds w.no_round-b.result t.result t.ensures w.if-drops_rounds.true w.no_round-b.ensures)
-    | else-drops_rounds w ↦ w.b-is ∙ ap (board_of sheet) (rounds_kept_lem c.change_at-c.result.answer (action_of (asked c).kind) c.loop-i.b.rounds t.result t.ensures w.if-drops_rounds.false)
+      | then-drops_rounds w ↦ w.b-is ∙ ap (board_of sheet) (rounds_dropped c.change_at-c.result.answer (action_of (asked c).kind) c.loop-i.b.rounds w.no_round-b.result t.result t.ensures w.if-drops_rounds.true w.no_round-b.ensures)
+      | else-drops_rounds w ↦ w.b-is ∙ ap (board_of sheet) (rounds_kept_lem c.change_at-c.result.answer (action_of (asked c).kind) c.loop-i.b.rounds t.result t.ensures w.if-drops_rounds.false)
     ]
 
 -- what owning the steps tells: how many there are
