@@ -2,7 +2,7 @@
 use mathlib.Core.Path.{◌≡◌, refl, sym, ap, subst, ◌∙◌}
 use mathlib.Core.Bool.{Bool, true, false, cond}
 use mathlib.Core.List.{List, [], ◌++◌}
-use Prim.Native.Nat.{ℕ, ◌<◌, ◌≤◌}
+use Prim.Native.Nat.{ℕ, suc, ◌+◌, ◌<◌, ◌≤◌}
 use native.Mathlib.Nat.{zero-add, le_refl}
 use native.Mathlib.Omega.{arith}
 use lib.ListN.{length, take, drop}
@@ -10,6 +10,7 @@ use lib.Seq.{sets, sets-eq, take_all}
 use lib.Dec.{eqb, leb}
 use borrow.Author.Tests.{leb-true}
 use Rattle.rules.specs.Events.{after_all, all_answers}
+use Rattle.rules.specs.Facts.{one_if}
 use Rattle.rules.specs.Sound.{sound}
 use Rattle.rules.specs.Lists.{after, answers, taking}
 use Rattle.rules.specs.Runs.{zeros, debts, run_answer, run_board, run_buffer, ran_steps}
@@ -38,6 +39,10 @@ allowed b steps room k n i k-is n-is l = by_tests (sound b) (leb steps room) ref
     by_tests true true s u e = record { is_sound_lem = s; has_steps = omega (arith, e); has_room = omega (arith, e, leb-true steps room u) }
     by_tests true false s u e = absurd (omega (arith, e, l))
     by_tests false u' s u e = absurd (omega (arith, e, l))
+
+pub counted_is : (t : Bool) (z : ℕ) → cond t (suc z) z ≡ z + one_if t
+counted_is true z = omega arith
+counted_is false z = omega arith
 
 -- ---- the end of a run
 run_carries : (b : Board) (rs : List StepRecord) (out : List ℕ) → Carries b (taking (ran_steps b rs out)) (run_board b rs out)
