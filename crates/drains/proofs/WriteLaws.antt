@@ -39,6 +39,10 @@ within_at (suc n) table c zero w l = (w.0, w.1)
 within_at (suc n) table c (suc i) w l =
     subst (λ (d : LegCursor). (d.at < length table) × (d.next < 4096)) (sym (taken_first table c i)) (within_at n table (next_of table c) i w.2 (le_of_suc-le-suc l))
 
+-- the same of a cursor that is the one after i turns
+pub turn_within : (n : ℕ) (table : List Leg) (c d : LegCursor) (i : ℕ) → StaysInTable n table c → i < n → d ≡ cursor_after_turns table c i → (d.at < length table) × (d.next < 4096)
+turn_within n table c d i w l e = subst (λ (x : LegCursor). (x.at < length table) × (x.next < 4096)) (sym e) (within_at n table c i w l)
+
 -- after the last turn
 pub all_written : (n : ℕ) (table : List Leg) (c : LegCursor) (list : List StepRecord) → n ≤ length list → list_after_turns table c list n ≡ course n table c ++ drop n list
 unfolding course
