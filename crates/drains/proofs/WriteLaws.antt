@@ -18,10 +18,6 @@ abbrev pub list_after_turns : List Leg → LegCursor → List StepRecord → ℕ
 list_after_turns table c list zero = list
 list_after_turns table c list (suc i) = set (list_after_turns table c list i) i (cursor_after_turns table c (suc i)).step
 
-pub list_after_length : (table : List Leg) (c : LegCursor) (list : List StepRecord) (i : ℕ) → length (list_after_turns table c list i) ≡ length list
-list_after_length table c list zero = refl
-list_after_length table c list (suc i) = length-set (list_after_turns table c list i) _ _ ∙ list_after_length table c list i
-
 -- the first turn, and the others
 taken_first : (table : List Leg) (c : LegCursor) (i : ℕ) → cursor_after_turns table c (suc i) ≡ cursor_after_turns table (next_of table c) i
 taken_first table c zero = refl
