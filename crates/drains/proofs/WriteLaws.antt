@@ -3,7 +3,7 @@ use mathlib.Core.Path.{◌≡◌, refl, sym, ap, subst, ◌∙◌}
 use mathlib.Core.List.{List, [], ◌∷◌, ◌++◌}
 use Prim.Native.Nat.{ℕ, zero, suc, ◌<◌, ◌≤◌}
 use native.Mathlib.Nat.{not-suc-le-zero, le_of_suc-le-suc}
-use lib.ListN.{length, set, drop, length-set}
+use lib.ListN.{length, set, drop}
 use Rattle.rules.specs.declared.StepRecord.{StepRecord}
 use Rattle.drains.specs.Legs.{next_of, course, StaysInTable}
 use Rattle.drains.specs.declared.legs.Leg.{Leg}

@@ -1,7 +1,7 @@
 -- The legs of the slots, by the laws of the filled table.
 use Rattle.std.proofs.Common.{◌≡◌, ◌<◌, [], ◌∷◌, sym, ap, ◌∙◌, length, get_or, arith, rules}
 use Rattle.rules.specs.Records.{blank_slot}
-use Rattle.drains.specs.Legs.{slot_legs, slots_legs}
+use Rattle.drains.specs.Legs.{slots_legs}
 use Rattle.drains.specs.declared.legs.Leg.{Leg}
 use Rattle.drains.proofs.legs.TableLaws.{filled_none, filled_same, filled_more, filled_all, slot_leg}
 use Rattle.drains.proofs.legs.slot_starts.Goals as goal
@@ -17,7 +17,7 @@ loop-j-preserved c =
     let within : c.loop-j.j < length c.args.slots = omega arith in
     let room : length c.args.t.legs ≡ 385 = search rules in
     elim c.if-is_return.branch [
-      then-is_return w ↦ rw (w.legs-is, w.count-is) (filled_more _ _ _ _ c.loop-j.j blank_slot within c.loop-j.legs c.loop-j.count w.going.result (slot_leg c.loop-j.j y y.kind (sym c.is_return.ensures ∙ w.if-is_return.true) ∙ ap (λ (l : Leg). l ∷ []) (sym w.going.ensures)) (omega (arith, c.requires, c.loop-j.invariant.few, c.loop-j.invariant.long, room)) c.loop-j.invariant)
+      | then-is_return w ↦ rw (w.legs-is, w.count-is) (filled_more _ _ _ _ c.loop-j.j blank_slot within c.loop-j.legs c.loop-j.count w.going.result (slot_leg c.loop-j.j y y.kind (sym c.is_return.ensures ∙ w.if-is_return.true) ∙ ap (λ (l : Leg). l ∷ []) (sym w.going.ensures)) (omega (arith, c.requires, c.loop-j.invariant.few, c.loop-j.invariant.long, room)) c.loop-j.invariant)
       | else-is_return w ↦ rw (w.legs-is, w.count-is) (filled_same _ _ _ _ c.loop-j.j blank_slot within c.loop-j.legs c.loop-j.count (slot_leg c.loop-j.j y y.kind (sym c.is_return.ensures ∙ w.if-is_return.false)) c.loop-j.invariant)
     ]
 

@@ -1,7 +1,7 @@
 -- The legs of the units, by the laws of the filled table.
 use Rattle.std.proofs.Common.{◌≡◌, ◌<◌, [], ◌∷◌, sym, ap, ◌∙◌, length, get_or, arith, rules}
 use Rattle.rules.specs.Records.{blank_unit}
-use Rattle.drains.specs.Legs.{unit_legs, units_legs}
+use Rattle.drains.specs.Legs.{units_legs}
 use Rattle.drains.specs.declared.legs.Leg.{Leg}
 use Rattle.drains.proofs.legs.TableLaws.{filled_none, filled_same, filled_more, filled_all, unit_leg}
 use Rattle.drains.proofs.legs.unit_starts.Goals as goal
@@ -17,7 +17,7 @@ loop-i-preserved c =
     let within : c.loop-i.i < length c.args.units = omega arith in
     let room : length c.args.t.legs ≡ 385 = search rules in
     elim c.if-is_waiting.branch [
-      then-is_waiting w ↦ rw (w.legs-is, w.count-is) (filled_more _ _ _ _ c.loop-i.i blank_unit within c.loop-i.legs c.loop-i.count w.waiting.result (unit_leg c.loop-i.i x x.state (sym c.is_waiting.ensures ∙ w.if-is_waiting.true) ∙ ap (λ (l : Leg). l ∷ []) (sym w.waiting.ensures)) (omega (arith, c.requires, c.loop-i.invariant.few, c.loop-i.invariant.long, room)) c.loop-i.invariant)
+      | then-is_waiting w ↦ rw (w.legs-is, w.count-is) (filled_more _ _ _ _ c.loop-i.i blank_unit within c.loop-i.legs c.loop-i.count w.waiting.result (unit_leg c.loop-i.i x x.state (sym c.is_waiting.ensures ∙ w.if-is_waiting.true) ∙ ap (λ (l : Leg). l ∷ []) (sym w.waiting.ensures)) (omega (arith, c.requires, c.loop-i.invariant.few, c.loop-i.invariant.long, room)) c.loop-i.invariant)
       | else-is_waiting w ↦ rw (w.legs-is, w.count-is) (filled_same _ _ _ _ c.loop-i.i blank_unit within c.loop-i.legs c.loop-i.count (unit_leg c.loop-i.i x x.state (sym c.is_waiting.ensures ∙ w.if-is_waiting.false)) c.loop-i.invariant)
     ]
 

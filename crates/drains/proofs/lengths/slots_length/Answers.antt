@@ -1,7 +1,7 @@
 -- The sum, part by part.
 use Rattle.std.proofs.Common.{◌≡◌, length, arith, rules}
 use Rattle.rules.specs.Records.{blank_slot}
-use Rattle.drains.proofs.lengths.LengthLaws.{none_yet, one_more, all_passed}
+use Rattle.drains.proofs.lengths.LengthLaws.{none_yet, one_more}
 use Rattle.drains.proofs.lengths.slots_length.Goals as goal
 
 pub loop-j-init : goal.loop-j-init

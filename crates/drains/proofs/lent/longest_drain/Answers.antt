@@ -1,5 +1,5 @@
 -- The list is written once, from the whole table.
-use Rattle.std.proofs.Common.{◌≡◌, ◌≤◌, List, ◌++◌, sym, ap, subst, ◌∙◌, length, drop, take, arith, rules}
+use Rattle.std.proofs.Common.{◌≡◌, ◌≤◌, List, ◌++◌, sym, ap, subst, ◌∙◌, length, drop, arith, rules}
 use lib.Seq.{take_all}
 use Rattle.drains.specs.Legs.{course, StaysInTable}
 use Rattle.drains.specs.declared.legs.Leg.{Leg}
