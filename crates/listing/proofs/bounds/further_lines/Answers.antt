@@ -42,8 +42,8 @@ loop-i-preserved c =
     let i = c.loop-i.i in
     let goes = further_goes s i c.loop-i.invariant.0 c.loop-i-test.true in
     elim c.if-script-i-eq10.branch [
-      then-script-i-eq10 w ↦ omega (arith, goes ∙ ap (λ (t : Bool). cond t 1 0 + further_lines (drop (i + 1 - 1) s)) (eq-eqb (get_or s (i - 1) 0) 10 w.if-script-i-eq10.true), w.n-is)
-    | else-script-i-eq10 w ↦ omega (arith, goes ∙ ap (λ (t : Bool). cond t 1 0 + further_lines (drop (i + 1 - 1) s)) (ne_eqb (get_or s (i - 1) 0) 10 w.if-script-i-eq10.false), w.n-is)
+      | then-script-i-eq10 w ↦ omega (arith, goes ∙ ap (λ (t : Bool). cond t 1 0 + further_lines (drop (i + 1 - 1) s)) (eq-eqb (get_or s (i - 1) 0) 10 w.if-script-i-eq10.true), w.n-is)
+      | else-script-i-eq10 w ↦ omega (arith, goes ∙ ap (λ (t : Bool). cond t 1 0 + further_lines (drop (i + 1 - 1) s)) (ne_eqb (get_or s (i - 1) 0) 10 w.if-script-i-eq10.false), w.n-is)
     ]
 
 pub returns : goal.returns
