@@ -1,16 +1,24 @@
 -- One read of the input, behind the bytes that were read before.
 -- For private contracts only; a reader of the claim may skip this.
-use Rattle.std.specs.Prelude.{◌≡◌, List, ℕ, ◌+◌, ◌-◌, min, ℤ, pos, negsuc, length, take}
+use Rattle.std.specs.Prelude.{◌≡◌, List, ℕ, ◌+◌, ◌-◌, ◌<◌, min, length, take, drop, Result, Ok, Err}
+use Rattle.std.specs.Io.KnownBytes.{Consumes, IsAtEnd}
+use Rattle.std.specs.declared.option.Option.{Option}
+use Rattle.std.specs.declared.io.Error.{Error}
 use Rattle.reading.specs.Input.{ReadBetween}
 use Rattle.reading.specs.declared.Input.{Input}
 use Rattle.reading.specs.declared.Input.TheVariants.{Bytes, Failed}
 
--- what a read behind the first `at` bytes of a buffer has answered: a negative number is a failure, any other so many bytes more
-abbrev pub told_by : ℕ → ℕ → ℤ → Input
-told_by at room (pos k) = Bytes (at + min k (room - at))
-told_by at room (negsuc k) = Failed
+-- what a read behind the first `at` bytes of a buffer has answered: that it failed, or so many bytes more
+abbrev pub told_by : ℕ → ℕ → Result ℕ Error → Input
+told_by at room (Ok k) = Bytes (at + min k (room - at))
+told_by at room (Err e) = Failed e
 
 -- a read behind the first `at` bytes of a buffer leaves these as they were, and counts them in
 pub record ReadsOn (at : ℕ) (before : List ℕ) (read : Input) (after : List ℕ) : Type 0 where
   pub kept : take at after ≡ take at before
   pub within : ReadBetween at (length before) read
+
+-- the bytes that it puts there are the next that the reader had left; none only where it has none left or there is no room
+abbrev pub GivesOn : ℕ → Option (List ℕ) → Option (List ℕ) → Input → List ℕ → Type 0
+GivesOn at before after (Bytes n) buf = Consumes before after (take (n - at) (drop at buf)) × (n ≡ at → at < length buf → IsAtEnd after)
+GivesOn at before after (Failed e) buf = Unit {0}

@@ -1,54 +1,56 @@
-// The reading of the standard input into a buffer, where a read that fails is told from the end. Which bytes it read no contract can say,
-// so the call of `libc::read` is to be read.
+// The reading of an input into a buffer, where a read that fails is told from the end. Which bytes come from the standard input no contract
+// can say, so the call of `read` is to be read.
 #![tactic(auto)]
 
 ghost use Rattle.std.specs.Prelude.{◌≡◌, ◌≤◌, length};
-ghost use Rattle.reading.specs.Input.{ReadBetween};
-ghost use Rattle.reading.specs.Reads.{told_by, ReadsOn};
+ghost use Rattle.reading.specs.Input.{ReadBetween, Gives};
+ghost use Rattle.reading.specs.Reads.{told_by, ReadsOn, GivesOn};
 
-use libc::STDIN_FILENO;
+use std::io;
+use std::io::Read;
 
-// What reading gave: so many bytes at the start of the buffer; or nothing, since a read failed, and errno says why.
+// What reading gave: so many bytes at the start of the buffer; or nothing, since a read failed, and why.
 #[derive(Clone, Copy)]
 pub enum Input {
     Bytes(usize),
-    Failed,
+    Failed(io::Error),
 }
 
 // What a read behind the `at` bytes that were read before has answered: where the bytes read now end, or that it failed.
-fn told(got: isize, buf: &[u8], at: usize) -> Input
+fn told(got: io::Result<usize>, buf: &[u8], at: usize) -> Input
     requires { at ≤ length buf.now }
     ensures { result ≡ told_by at (length buf.now) got }
 {
-    if got < 0 {
-        return Input::Failed;
+    match got {
+        Ok(more) => Input::Bytes(at + more.min(buf.len() - at)),
+        Err(e) => Input::Failed(e),
     }
-    let more = io::count(got, &buf[at..]);
-    Input::Bytes(at + more)
 }
 
-// One read from the standard input, to behind the bytes that were read before.
-fn read_more(buf: &mut [u8], at: usize) -> Input
+// One read from the input, to behind the bytes that were read before.
+fn read_more<R: Read>(input: &mut R, buf: &mut [u8], at: usize) -> Input
     requires { at ≤ length buf.old }
-    ensures { ReadsOn at buf.old result buf.new }
+    ensures reads { ReadsOn at buf.old result buf.new }
+    ensures bytes { GivesOn at (R.remaining input.old) (R.remaining input.new) result buf.new }
 {
-    let got = libc::read(STDIN_FILENO, &mut buf[at..]);
+    let got = input.read(&mut buf[at..]);
     told(got, buf, at)
 }
 
 // Reads until the input ends, the buffer is full, or a read fails. A read may give less than is still to come, as from a pipe: only one of
 // no bytes is the end.
-pub fn read_input(buf: &mut [u8]) -> Input
-    ensures { ReadBetween 0 (length buf.new) result }
+pub fn read_input<R: Read>(input: &mut R, buf: &mut [u8]) -> Input
+    ensures bound { ReadBetween 0 (length buf.new) result }
+    ensures bytes { Gives (R.remaining input.old) (R.remaining input.new) result buf.new }
 {
     let mut count: usize = 0;
     while count < buf.len() {
-        let read = read_more(buf, count);
+        let read = read_more(input, buf, count);
         let Input::Bytes(behind) = read else {
-            return Input::Failed;
+            return read;
         };
         if behind == count {
-            return Input::Bytes(count);
+            return read;
         }
         count = behind;
     }
