@@ -1,5 +1,5 @@
 -- The walk past the kinds, to the kind of the choice.
-use Rattle.std.proofs.Common.{refl, sym, ◌∙◌, arith}
+use Rattle.std.proofs.Common.{◌∙◌, arith}
 use Rattle.census.specs.Claims.{ChoicesNumber}
 use Rattle.census.proofs.ChoiceLaws.{choices_number}
 use Rattle.census.proofs.choices.PlaceLaws.{walk_begins, walk_goes, walk_ends}

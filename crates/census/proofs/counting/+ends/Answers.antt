@@ -1,11 +1,8 @@
 -- What a turn of the loop reads, what it adds up, and that nothing wraps.
-use Rattle.std.proofs.Common.{◌≡◌, ℕ, suc, ◌+◌, ◌-◌, ◌≤◌, length, get_or, refl, sym, ap, subst, ◌∙◌, arith, rules}
+use Rattle.std.proofs.Common.{ℕ, ◌+◌, ◌-◌, get_or, refl, sym, ap, subst, ◌∙◌, arith, rules}
 use Rattle.steps.specs.NoStep.{no_step}
-use Rattle.census.specs.Claims.{ChoicesNumber}
 use Rattle.census.specs.Counting.{ends_from}
 use Rattle.census.specs.declared.Ends.{Ends}
-use Rattle.census.proofs.ChoiceLaws.{choices_number}
-use Rattle.census.proofs.EndingLaws.{choices_on}
 use Rattle.census.proofs.counting.TurnLaws.{Turn, listed_within, listed_all, listed_choice, listed_answer, ready_next, turn_begins, turn_accepted, turn_refused, turn_ends, turn_fits, sum_fits}
 use Rattle.census.proofs.counting.+ends.Goals as goal
 use Rattle.census.proofs.counting.+ends.Goals.{then-answers-i-eq0, else-answers-i-eq0}
@@ -33,14 +30,14 @@ loop-i-preserved t c =
     let given = c.loop-i.invariant.0 in
     let l = c.loop-i-test.true in
     let turns : Turn c.args.b (c.args.left - 1) c.if-answers-i-eq0.sum c.if-answers-i-eq0.refused (c.loop-i.i + 1)
-        = elim c.if-answers-i-eq0.branch [
-          then-answers-i-eq0 w ↦
-            rw (w.sum-is, w.refused-is, w.plus-sum.ensures)
-            (turn_accepted _ _ (listed_within given l) c.loop-i.invariant.1 (omega arith) (listed_choice given l) (sym (listed_answer given l) ∙ w.if-answers-i-eq0.true) w.step-o.ensures.board w.ends.ensures)
-        | else-answers-i-eq0 w ↦
-            rw (w.sum-is, w.refused-is)
-            (turn_refused _ _ (listed_within given l) c.loop-i.invariant.1 (omega arith) (omega arith) (listed_choice given l) (λ z. w.if-answers-i-eq0.false (listed_answer given l ∙ z)))
-        ] in
+    = elim c.if-answers-i-eq0.branch [
+      | then-answers-i-eq0 w ↦
+          rw (w.sum-is, w.refused-is, w.plus-sum.ensures)
+          (turn_accepted _ _ (listed_within given l) c.loop-i.invariant.1 (omega arith) (listed_choice given l) (sym (listed_answer given l) ∙ w.if-answers-i-eq0.true) w.step-o.ensures.board w.ends.ensures)
+      | else-answers-i-eq0 w ↦
+          rw (w.sum-is, w.refused-is)
+          (turn_refused _ _ (listed_within given l) c.loop-i.invariant.1 (omega arith) (omega arith) (listed_choice given l) (λ z. w.if-answers-i-eq0.false (listed_answer given l ∙ z)))
+    ] in
     (given, turns)
 
 pub combined-requires : goal.combined-requires
