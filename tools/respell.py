@@ -16,6 +16,7 @@ ID = re.compile(r"[^\W\d][\w'\-]*", re.U)
 CAMEL = re.compile(r"^[a-z][a-z0-9']*(?:[A-Z][A-Za-z0-9']*)+$")
 OWN = re.compile(r"^\s*(?:pub )?use Rattle\.(?!std\b|core\b|check\b|io\b|libc\b|os\b)")
 USE = re.compile(r"^\s*(?:ghost )?(?:pub )?use ([\w.\u00b7]+)(?:\.\{([^}]*)\})?", re.U)
+ALIAS = re.compile(r"^\s*use Rattle\.[\w.+]+ as ([\w'\-]+)\s*$", re.M)
 GOAL = re.compile(r"^(returns|invariant-|measure-|loop-|overflow|bounds|slice_bounds|nonzero|prove-|after-|close-|.*-requires|.*-(init|preserved|smaller))(-|$)")
 DEF = re.compile(r"^\s*(?:(?:pub|abbrev|unfoldable|private|instance|rule)\s+)*([^\W\d][\w'\-]*)(?:\s+[^\W\d][\w'\-]*)*\s+:(?:\s|$)", re.U)
 HEAD = re.compile(r"^\s*(?:(?:pub|abbrev|unfoldable)\s+)*(?:ruleset|let)\s+([^\W\d][\w'\-]*)", re.U)
@@ -105,14 +106,15 @@ def main():
     if DRY:
         return
 
-    def turn(text):
+    def turn(text, aliases=()):
         def sub(m):
             w = m.group(0)
             if w not in names:
                 return w
             if "-" in w and m.start() > 0 and text[m.start() - 1] == "." and w not in fields:
-                before = re.search(r"([\w']+)\.$", text[:m.start()])
-                if not (before and before.group(1)[:1].isupper()):
+                # behind a module, or a short name of one
+                before = re.search(r"([\w'\-]+)\.$", text[:m.start()])
+                if not (before and (before.group(1)[:1].isupper() or before.group(1) in aliases)):
                     return w
             return names[w]
         return ID.sub(sub, text)
@@ -122,9 +124,10 @@ def main():
 
     for p, t in antt:
         out = []
+        aliases = set(ALIAS.findall(t))
         for line in t.split("\n"):
             body, comment = code(line)
-            out.append(turn(body) + (ticks(comment) if comment else ""))
+            out.append(turn(body, aliases) + (ticks(comment) if comment else ""))
         write(p, read(p), "\n".join(out))
     for p, t in rt + edits:
         write(p, t, turn(t) if p.endswith(".edit") else "\n".join(ghost(l, turn, ticks) for l in t.split("\n")))

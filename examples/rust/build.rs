@@ -1,4 +1,4 @@
-//! Links the library, which `rt staticlib ayokwelifu` writes.
+//! Links the library, which `tools/build ayokwelifu` writes.
 
 fn main() {
     let library = format!("{}/../../target/staticlib", std::env::var("CARGO_MANIFEST_DIR").unwrap());

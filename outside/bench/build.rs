@@ -1,5 +1,4 @@
-//! Links the proved loops over the public functions, which `rt staticlib bench`, `rt staticlib bench_batches`,
-//! `rt staticlib bench_census` and `rt staticlib bench_drains` write.
+//! Links the proved loops over the public functions, which `tools/build` writes.
 
 fn main() {
     let library = format!("{}/../../target/staticlib", std::env::var("CARGO_MANIFEST_DIR").unwrap());

@@ -1,4 +1,4 @@
-//! Links the proved library, which `rt staticlib ayokwelifu` writes.
+//! Links the proved library, which `tools/build ayokwelifu` writes.
 
 fn main() {
     let library = format!("{}/../../target/staticlib", std::env::var("CARGO_MANIFEST_DIR").unwrap());

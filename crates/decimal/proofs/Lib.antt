@@ -1,3 +1,4 @@
 pub mod CountLaws
+pub mod ReadLaws
 pub mod SpellLaws
 pub mod RoundTrip

@@ -1,21 +1,17 @@
 -- Runs of stores: one behind the other is one of the joined text, and a run in the rest of a buffer is one in the whole.
 use mathlib.Core.Path.{◌≡◌, refl, ap, ◌∙◌}
 use mathlib.Core.List.{List, [], ◌∷◌, ◌++◌, append-nil}
-use Prim.Native.Nat.{ℕ, zero, suc, ◌+◌, ◌-◌, ◌≤◌, ◌<◌}
-use native.Mathlib.Nat.{zero-add, add-zero, add-suc, suc-add, le_refl, not-suc-le-zero, le_of_suc-le-suc}
+use Prim.Native.Nat.{ℕ, zero, suc, ◌+◌, ◌-◌, ◌≤◌}
+use native.Mathlib.Nat.{zero-add, add-zero, suc-add, le_refl, not-suc-le-zero, le_of_suc-le-suc}
 use native.Mathlib.Omega.{arith}
-use lib.ListN.{length, take, drop, get_or, set, length-drop, drop_of_length-le}
-use lib.Seq.{sets, drop-cons, take_all}
+use lib.ListN.{length, take, drop, set, length-drop, drop_of_length-le}
+use lib.Seq.{sets, take_all}
 use borrow.Rule.Slice.PartMut.{mid_of, put_mid, put_same}
 
 -- a text behind a text is the joined text
 pub sets_append : (out : List ℕ) (at : ℕ) (a b : List ℕ) → sets (sets out at a) (at + length a) b ≡ sets out at (a ++ b)
 sets_append out at [] b = rw add-zero
 sets_append out at (x ∷ a) b = ap (λ (k : ℕ). sets (sets out at (x ∷ a)) k b) (omega arith) ∙ sets_append (set out at x) (suc at) a b
-
--- one store of what is left of a text from place i on
-pub sets_turn : (out : List ℕ) (at : ℕ) (text : List ℕ) (i : ℕ) → i < length text → sets (set out (at + i) (get_or text i 0)) (at + suc i) (drop (suc i) text) ≡ sets out (at + i) (drop i text)
-sets_turn out at text i h = rw (add-suc, drop-cons text i 0)
 
 sets_cons : (x : ℕ) (out : List ℕ) (i : ℕ) (text : List ℕ) → sets (x ∷ out) (suc i) text ≡ x ∷ sets out i text
 sets_cons x out i [] = refl

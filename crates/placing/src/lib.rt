@@ -24,6 +24,7 @@ fn copy_in(text: &[u8], out: &mut [u8], at: usize)
 }
 
 // A text at a place of a buffer, or 27 and the buffer as it was. The place is tested first: at + n can wrap.
+#[tactic(auto, unfolding(crate::specs::Placing::wrote, crate::specs::Placing::written))]
 pub fn put_bytes(text: &[u8], out: &mut [u8], at: usize) -> Wrote
     ensures { Writes text.now at out.old result out.new }
 {

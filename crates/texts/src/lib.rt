@@ -24,6 +24,7 @@ fn put_last_word(word: &[u8], out: &mut [u8], at: usize)
 }
 
 // The line at the start of what is lent. Its length is known before its first byte is written.
+#[tactic(auto, using(decimal::proofs::CountLaws::count_most))]
 fn line_in(number: u64, answer: u64, debt: u64, word: &[u8], out: &mut [u8]) -> Wrote
     requires { length word.now ≤ 8 }
     ensures { Writes (line_with number answer debt word.now) 0 out.old result out.new }

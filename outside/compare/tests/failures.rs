@@ -1,4 +1,4 @@
-//! The program `sheetboard`, which `rt check sheetboard` builds, where its input or its output fails, and where its
+//! The program `sheetboard`, which `tools/build sheetboard` builds, where its input or its output fails, and where its
 //! input comes in pieces.
 
 use std::fs::{File, OpenOptions};
@@ -47,7 +47,7 @@ fn caught(mut command: Command) -> Command {
 fn output(mut command: Command) -> Output {
     command
         .output()
-        .expect("the program is built by `rt check sheetboard` and runs")
+        .expect("the program is built by `tools/build sheetboard` and runs")
 }
 
 /// An input that holds a script.

@@ -1,7 +1,7 @@
 -- Depth on a sound board: a unit is one deeper than its parent, and none is deeper than the greatest depth.
 use mathlib.Core.Path.{◌≡◌, refl, sym, ap, ◌∙◌}
 use mathlib.Core.List.{List}
-use Prim.Native.Nat.{ℕ, zero, suc, ◌-◌, ◌≤◌, ◌<◌, zero-le, suc-le-suc}
+use Prim.Native.Nat.{ℕ, zero, suc, ◌≤◌, ◌<◌, zero-le, suc-le-suc}
 use native.Mathlib.Nat.{not-suc-le-zero, le_refl, le-max_left, le-max_right, le_trans}
 use native.Mathlib.Omega.{arith}
 use lib.ListN.{get_or}
