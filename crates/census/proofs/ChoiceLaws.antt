@@ -50,7 +50,8 @@ abbrev range_row : StepRecord → StepRecord → List Fact
 range_row r c = below r.unit c.unit ∷ below r.other c.other ∷ below r.slot c.slot ∷ []
 
 one_both : (s t : Bool) → one_if (s && t) ≡ one_if s * one_if t
-one_both s t = elim s [ true ↦ omega arith | false ↦ omega arith ]
+one_both true t = omega arith
+one_both false t = omega arith
 
 -- a list for each number, w such elements in the one for y and none in the others
 many_once : {B : Type 0} (is : B → Bool) (f : ℕ → List B) (y k w : ℕ) → ((x : ℕ) → how_many is (f x) ≡ one_if (eqb y x) * w) → how_many is (for_each (numbers_from 0 k) f) ≡ one_if (ltb y k) * w

@@ -6,9 +6,10 @@ use Prim.Native.Nat.{ℕ, suc, ◌+◌, ◌*◌, ◌≤◌, ◌<◌}
 use native.Mathlib.Nat.{mul-le-mul, mul-le-mul_right, pow-le-pow_left, pow-le-pow_right}
 use native.Mathlib.Omega.{arith}
 use lib.ListN.{length, get_or, take}
-use lib.Seq.{take-length}
+use lib.Seq.{get_or-take, take-length}
 use borrow.Author.Tests.{eq-eqb, ne_eqb}
 use Rattle.rules.specs.Facts.{sum_of}
+use Rattle.rules.specs.Runs.{batch_most, padded}
 use Rattle.rules.specs.Sound.{Sound}
 use Rattle.rules.specs.Steps.{step}
 use Rattle.rules.specs.declared.Board.{Board}
@@ -20,7 +21,9 @@ use Rattle.rules.specs.Busy.{how_many, is_busy}
 use Rattle.census.specs.Sorts.{is_finished, is_other}
 use Rattle.census.specs.Counting.{ending_count, ends_from}
 use Rattle.census.specs.Claims.{ChoicesNumber, CountsRecur}
+use Rattle.steps.specs.AnswersOn.{answers_on}
 use Rattle.steps.specs.NoStep.{no_step}
+use Rattle.steps.proofs.AnswersLaws.{answer_at}
 use Rattle.census.specs.declared.Ends.{Ends}
 use Rattle.census.proofs.ChoiceLaws.{choices_number}
 use Rattle.census.proofs.EndingLaws.{choices_on, same_sizes, accepted_choice, refused_choice, counts_recur, ending_most}
@@ -47,6 +50,35 @@ unfolding ChoicesNumber
 count_most is b k p q l =
     let few : length (choices_on b) ≤ 41 = omega (arith, choices_number b.n b.m, number_most b.n b.m p q) in
     omega (arith, ending_most is b k, pow-le-pow_left few k, pow-le-pow_right {n = 41} (omega arith) l)
+
+-- ---- before the loop: the choices are listed, and what each would answer
+pub record Listed (b : Board) (count : ℕ) (cs : List StepRecord) (ks : List ℕ) : Type 0 where
+  pub small : (b.n ≤ 3) × (b.m ≤ 2)
+  pub number : count ≡ choice_number b.n b.m
+  pub choices : take (choice_number b.n b.m) cs ≡ choices_on b
+  pub long : length cs ≡ batch_most
+  pub answers : ks ≡ padded (answers_on b (take count cs))
+
+-- in a turn a choice is left
+pub listed_within : {b : Board} {count i : ℕ} {cs : List StepRecord} {ks : List ℕ} → Listed b count cs ks → i < count → i < length (choices_on b)
+unfolding ChoicesNumber
+listed_within {b} h l = omega (arith, l, h.number, choices_number b.n b.m)
+
+-- behind the last none is
+pub listed_all : {b : Board} {count i : ℕ} {cs : List StepRecord} {ks : List ℕ} → Listed b count cs ks → i ≤ length (choices_on b) → count ≤ i → i ≡ length (choices_on b)
+unfolding ChoicesNumber
+listed_all {b} h l m = omega (arith, l, m, h.number, choices_number b.n b.m)
+
+-- the record that is read is the choice of its number
+pub listed_choice : {b : Board} {count i : ℕ} {cs : List StepRecord} {ks : List ℕ} → Listed b count cs ks → i < count → get_or cs i no_step ≡ get_or (choices_on b) i no_step
+listed_choice {b} {i = i} {cs} h l =
+    sym (get_or-take (choice_number b.n b.m) cs i no_step (omega (arith, l, h.number))) ∙ ap (λ (rs : List StepRecord). get_or rs i no_step) h.choices
+
+-- and the number that is read is its answer
+pub listed_answer : {b : Board} {count i : ℕ} {cs : List StepRecord} {ks : List ℕ} → Listed b count cs ks → i < count → get_or ks i 0 ≡ (step b (get_or cs i no_step)).answer
+listed_answer {b} {count} {i} {cs} h l =
+    ap (λ (ns : List ℕ). get_or ns i 0) h.answers
+    ∙ answer_at b cs count i l (omega (arith, l, h.number, h.long, number_most b.n b.m h.small.0 h.small.1))
 
 -- ---- sums over the first choices
 module _ (b : Board) (k : ℕ) where

@@ -33,17 +33,17 @@ module _ (b : Board) (u : ℕ) where
   unfolding visit
   visit_unsound e = rw e
 
-  module _ (is_sound_lem : sound b ≡ true) where
+  module _ (is_sound : sound b ≡ true) where
     -- refused by the second
     pub visit_unused : b.n ≤ u → record { finding = Refused 13; board = b } ≡ visit b u
     unfolding visit
-    visit_unused l = rw (is_sound_lem, lt-leb (suc u) b.n (suc-le-suc l))
+    visit_unused l = rw (is_sound, lt-leb (suc u) b.n (suc-le-suc l))
 
     -- the number j decides
     module _ (in_use : u < b.n) (j : ℕ) (j-is : j ≡ refusal_number (unit_checks b u)) where
       visit_numbered : visit b u ≡ cond (eqb j 0) (visited_by b u) (record { finding = Refused j; board = b })
       unfolding visit
-      visit_numbered = rw (is_sound_lem, le-leb (suc u) b.n in_use, j-is) (judge_by_number (λ k. record { finding = Refused k; board = b }) (unit_checks b u) (visited_by b u) (omega arith))
+      visit_numbered = rw (is_sound, le-leb (suc u) b.n in_use, j-is) (judge_by_number (λ k. record { finding = Refused k; board = b }) (unit_checks b u) (visited_by b u) (omega arith))
 
       -- another number than 0 refuses
       pub visit_refused : (j ≡ 0 → ⊥) → record { finding = Refused j; board = b } ≡ visit b u

@@ -1,6 +1,6 @@
 -- A batch leaves what its steps leave.
-use Rattle.std.proofs.Common.{◌+◌, arith}
-use Rattle.bench.proofs.WalkLaws.{WalkTurn, walk_begins, turn_ends}
+use Rattle.std.proofs.Common.{arith}
+use Rattle.bench.proofs.WalkLaws.{walk_begins, turn_ends}
 use Rattle.bench.proofs.batches.BatchLaws.{turn_batched}
 use Rattle.bench.proofs.batches.batched.Goals as goal
 

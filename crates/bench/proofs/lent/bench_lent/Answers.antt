@@ -1,6 +1,5 @@
--- A turn counts one more at most, and leaves what its step leaves.
-use Rattle.std.proofs.Common.{ap, ◌∙◌, arith}
-use Rattle.bench.proofs.lent.TurnLaws.{lent_begins, lent_goes, lent_ends}
+-- A turn leaves what its step leaves; after the last nothing is left.
+use Rattle.bench.proofs.lent.TurnLaws.{lent_goes, lent_ends}
 use Rattle.bench.proofs.lent.bench_lent.Goals as goal
 
 pub loop-i-preserved : goal.loop-i-preserved

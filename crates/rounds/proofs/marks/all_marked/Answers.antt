@@ -1,5 +1,5 @@
 -- By the unit that is asked for a mark and has none, or none such.
-use Rattle.std.proofs.Common.{◌≡◌, ◌<◌, length, sym, arith, rules}
+use Rattle.std.proofs.Common.{◌≡◌, length, sym, arith, rules}
 use Rattle.rounds.proofs.marks.Marking.{one_unmarked, none_unmarked}
 use Rattle.rounds.proofs.marks.all_marked.Goals as goal
 
