@@ -1,1 +1,1 @@
-pub mod TreeCall
+pub mod TurnLaws

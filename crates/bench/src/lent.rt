@@ -11,14 +11,7 @@ use rules::StepRecord;
 use steps::{run, step_lent};
 
 // The run over the whole list, on one lent board.
-#[unsafe(no_mangle)]
-pub extern "C" fn bench_run(
-    n: u16,
-    m: u16,
-    d: u16,
-    steps: &[StepRecord],
-    answers: &mut [u16],
-) -> u64
+pub fn bench_run(n: u16, m: u16, d: u16, steps: &[StepRecord], answers: &mut [u16]) -> u64
     ensures { (result ≡ zeros_of (run_answer (tree_board n m d) steps.now answers.old)) × (answers.new ≡ run_buffer (tree_board n m d) steps.now answers.old) }
 {
     let mut c = tree_board(n, m, d);
@@ -27,8 +20,7 @@ pub extern "C" fn bench_run(
 }
 
 // The step by step loop, which finds its board advanced where it was.
-#[unsafe(no_mangle)]
-pub extern "C" fn bench_lent(n: u16, m: u16, d: u16, steps: &[StepRecord]) -> u64
+pub fn bench_lent(n: u16, m: u16, d: u16, steps: &[StepRecord]) -> u64
     ensures { result ≡ accepted_of n m d steps.now }
 {
     let mut c = tree_board(n, m, d);

@@ -17,6 +17,7 @@ ghost use Rattle.bench.specs.Counts.{accepted_of, sound_with};
 
 pub use batches::batched;
 use delays::sound_count;
+pub use lent::{bench_lent, bench_run};
 pub use trees::tree_board;
 pub use walks::Walked;
 use walks::stepped;
@@ -32,16 +33,14 @@ pub(crate) fn one_if(t: bool) -> u64
 }
 
 // How many steps of a list are accepted, by the step by value.
-#[unsafe(no_mangle)]
-pub extern "C" fn bench_steps(n: u16, m: u16, d: u16, list: &[u16]) -> u64
+pub fn bench_steps(n: u16, m: u16, d: u16, list: &[u16]) -> u64
     ensures { result ≡ accepted_of n m d (records_in list.now) }
 {
     stepped(tree_board(n, m, d), list).count
 }
 
 // With how many of the delays the board after a list is sound.
-#[unsafe(no_mangle)]
-pub extern "C" fn bench_soundness(n: u16, m: u16, d: u16, list: &[u16], delays: &[u16]) -> u64
+pub fn bench_soundness(n: u16, m: u16, d: u16, list: &[u16], delays: &[u16]) -> u64
     ensures { result ≡ sound_with (after (tree_board n m d) (records_in list.now)) delays.now }
 {
     let b = stepped(tree_board(n, m, d), list).board;

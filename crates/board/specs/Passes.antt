@@ -14,7 +14,7 @@ use Rattle.rules.specs.declared.Rounds.{Rounds}
 -- the lengths of a board's arrays, which its type says
 pub record Lengths (b : Sheet) : Type 0 where
   pub of_parents : length b.parents ≡ 64
-  pub of_units_lem : length b.units ≡ 64
+  pub of_units : length b.units ≡ 64
   pub of_slots : length b.slots ≡ 256
   pub of_created : length b.created ≡ 64
   pub of_processed : length b.processed ≡ 64

@@ -1,32 +1,20 @@
 -- What refuses the calls, and what a call that is not refused knows.
 use mathlib.Core.Path.{◌≡◌, sym, ap, ◌∙◌}
-use mathlib.Core.Bool.{Bool, true, false, not, cond}
+use mathlib.Core.Bool.{Bool, true, false, cond}
 use mathlib.Core.List.{[], ◌∷◌}
-use Prim.Native.Nat.{ℕ, suc}
+use Prim.Native.Nat.{ℕ}
 use native.Mathlib.Omega.{arith}
 use lib.Dec.{leb, eqb}
 use borrow.Author.Tests.{eq-eqb, ne_eqb}
 use Rattle.rules.specs.Facts.{Claims, check, at_most, judge}
 use Rattle.rules.specs.Boards.{view}
-use Rattle.rules.specs.Sound.{sound}
-use Rattle.rules.specs.Busy.{is_busy}
 use Rattle.rules.specs.Sheets.Longest.{longest_length}
 use Rattle.rules.specs.declared.Board.{Board}
 use Rattle.rules.proofs.FactLaws.{asked, judge_passed}
 use Rattle.rules.proofs.JudgeLaws.{Numbered, refusal_number, number_claims, judge_by_number, judge_append}
 use Rattle.drains.specs.declared.Longest.{Longest}
 use Rattle.drains.specs.declared.Longest.TheVariants.{Steps, Refused}
-use Rattle.drains.specs.Calls.{lowest_free, drain_checks, length_answer, list_answer}
-
--- the three numbers in their order
-pub refused_unsound : (b : Board) → sound b ≡ false → refusal_number (drain_checks b) ≡ 30
-refused_unsound b e = ap (λ (t : Bool). cond t (cond (not (is_busy b)) (cond (leb (suc (lowest_free b.slots)) b.m) 0 49) 48) 30) e
-
-pub refused_busy : (b : Board) → sound b ≡ true → is_busy b ≡ true → refusal_number (drain_checks b) ≡ 48
-refused_busy b e w = λ i. cond (e i) (cond (not (w i)) (cond (leb (suc (lowest_free b.slots)) b.m) 0 49) 48) 30
-
-pub by_free : (b : Board) → sound b ≡ true → is_busy b ≡ false → {t : Bool} → leb (suc (lowest_free b.slots)) b.m ≡ t → refusal_number (drain_checks b) ≡ cond t 0 49
-by_free b e w f = λ i. cond (e i) (cond (not (w i)) (cond (f i) 0 49) 48) 30
+use Rattle.drains.specs.Calls.{drain_checks, length_answer, list_answer}
 
 drain_numbered : (b : Board) → Numbered (drain_checks b)
 drain_numbered b = omega arith

@@ -3,7 +3,7 @@ use mathlib.Core.Path.{◌≡◌, refl, sym, ap, subst, ◌∙◌}
 use mathlib.Core.List.{List, [], ◌∷◌, ◌++◌}
 use Prim.Native.Nat.{ℕ, zero, suc, ◌<◌, ◌≤◌}
 use native.Mathlib.Nat.{not-suc-le-zero, le_of_suc-le-suc}
-use lib.ListN.{length, set, drop, length-set}
+use lib.ListN.{length, set, drop}
 use Rattle.rules.specs.declared.StepRecord.{StepRecord}
 use Rattle.drains.specs.Legs.{next_of, course, StaysInTable}
 use Rattle.drains.specs.declared.legs.Leg.{Leg}
@@ -17,10 +17,6 @@ cursor_after_turns table c (suc i) = next_of table (cursor_after_turns table c i
 abbrev pub list_after_turns : List Leg → LegCursor → List StepRecord → ℕ → List StepRecord
 list_after_turns table c list zero = list
 list_after_turns table c list (suc i) = set (list_after_turns table c list i) i (cursor_after_turns table c (suc i)).step
-
-pub list_after_length : (table : List Leg) (c : LegCursor) (list : List StepRecord) (i : ℕ) → length (list_after_turns table c list i) ≡ length list
-list_after_length table c list zero = refl
-list_after_length table c list (suc i) = length-set (list_after_turns table c list i) _ _ ∙ list_after_length table c list i
 
 -- the first turn, and the others
 taken_first : (table : List Leg) (c : LegCursor) (i : ℕ) → cursor_after_turns table c (suc i) ≡ cursor_after_turns table (next_of table c) i
@@ -38,6 +34,10 @@ within_at zero table c i w l = absurd (not-suc-le-zero l)
 within_at (suc n) table c zero w l = (w.0, w.1)
 within_at (suc n) table c (suc i) w l =
     subst (λ (d : LegCursor). (d.at < length table) × (d.next < 4096)) (sym (taken_first table c i)) (within_at n table (next_of table c) i w.2 (le_of_suc-le-suc l))
+
+-- the same of a cursor that is the one after i turns
+pub turn_within : (n : ℕ) (table : List Leg) (c d : LegCursor) (i : ℕ) → StaysInTable n table c → i < n → d ≡ cursor_after_turns table c i → (d.at < length table) × (d.next < 4096)
+turn_within n table c d i w l e = subst (λ (x : LegCursor). (x.at < length table) × (x.next < 4096)) (sym e) (within_at n table c i w l)
 
 -- after the last turn
 pub all_written : (n : ℕ) (table : List Leg) (c : LegCursor) (list : List StepRecord) → n ≤ length list → list_after_turns table c list n ≡ course n table c ++ drop n list

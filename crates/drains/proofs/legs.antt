@@ -1,3 +1,4 @@
 pub mod TableLaws
 pub mod CourseLaws
 pub mod LegLaws
+pub mod PlanLaws

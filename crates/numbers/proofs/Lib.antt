@@ -1,4 +1,5 @@
 pub mod LineLaws
 pub mod PlaceLaws
 pub mod NumberLaws
+pub mod PassLaws
 pub mod JoinLaws

@@ -38,6 +38,7 @@ fn line_refusal(leading: bool, refusal: u16) -> u16
 }
 
 // The number fields from a place on. A bad field does not end the pass: the fields behind it count too.
+#[tactic(auto, using(fields::proofs::PartLaws::end_after, fields::proofs::PartLaws::end_at_most))]
 pub fn read_numbers(line: &[u8], from: usize) -> Numbers
     ensures { result ≡ numbers_at from line.now }
 {

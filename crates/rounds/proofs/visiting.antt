@@ -1,1 +1,4 @@
 pub mod Arms
+pub mod Room
+pub mod VisitLaws
+pub mod VisitOutcomes

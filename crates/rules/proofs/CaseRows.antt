@@ -191,7 +191,7 @@ stuck_refuses r Move c = omega (arith, shown 13 c, shown 47 c)
 pub stuck : Stuck stuck_board
 unfolding stuck_board record_rule effect applied sheet_sound_step sound_step
 stuck = record {
-  is_sound_lem = stuck_sound;
+  is_sound = stuck_sound;
   not_finished = verdict_sound stuck_board stuck_sound;
   refused = λ r e. stuck_refuses r (action_of r.kind) (accepted_as (view stuck_board) r stuck_sound.sheet (action_of r.kind) refl (sym (answer_shown stuck_board r stuck_sound) ∙ e));
   grant_refused = ap (λ (o : Outcome). o.answer) (step_sound stuck_board (deliver 0) stuck_sound);

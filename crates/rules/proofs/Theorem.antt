@@ -51,7 +51,7 @@ guarantee m d ps es e =
     let shown = shown_after f es start.0 in
     let g = sheet_guarantee (view f) start.0.sheet start.1 (steps_of es) in
     record {
-      is_sound_lem = h;
+      is_sound = h;
       conserved = h.sheet.s5_s6_debt.0;
       accounted = omega (
         arith,
@@ -94,7 +94,7 @@ unfolding GuaranteeOf FinishedAllBack
 finished_all_back m d ps es e f =
     let g = guarantee m d ps es e in
     let b : Board = after_all events (opening m d ps).board es in
-    omega (arith, g.accounted, finished_debt (view b) g.is_sound_lem.sheet (sym (verdict_shown b g.is_sound_lem) ∙ f))
+    omega (arith, g.accounted, finished_debt (view b) g.is_sound.sheet (sym (verdict_shown b g.is_sound) ∙ f))
 
 -- ---- a finished board is quiet and its bound on drains is 0, so no step but a start or a move is accepted
 complete_bound : (b : Sheet) → Complete b → drain_bound b ≡ 0

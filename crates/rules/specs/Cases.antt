@@ -184,7 +184,7 @@ stuck_board =
     (replicate 64 0)) no_round
 
 pub record Stuck (b : Board) : Type 0 where
-  pub is_sound_lem : Sound b
+  pub is_sound : Sound b
   pub not_finished : verdict b ≡ Working
   pub refused : (r : StepRecord) → (step b r).answer ≡ 0 → ⊥
   pub grant_refused : (step b (deliver 0)).answer ≡ 36

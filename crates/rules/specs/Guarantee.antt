@@ -58,7 +58,7 @@ pub record History (S E : Type 0) : Type 0 where
 -- what holds of the state b that the list es left, where es began on the state f
 pub record GuaranteedOf {S E : Type 0} (M : Model S) (ev : Events S E) (h : History S E) (f : S) (es : List E) (b : S) : Type 0 where
   -- the board is sound
-  pub is_sound_lem : M.Good b
+  pub is_sound : M.Good b
   -- weight is conserved: what is in units and slots is the debt
   pub conserved : weight_out (M.shows b) ≡ (M.shows b).debt
   -- the debt and what unit 0 took back are what starts and grants brought in

@@ -1,5 +1,7 @@
 -- What the program hands to its output: the listing, part by part.
 use Rattle.std.specs.Prelude.{◌≡◌, Bool, true, List, ℕ, ◌≤◌, length, take, replicate}
+use Rattle.std.specs.Io.KnownBytes.{Keeps, Appends}
+use Rattle.std.specs.declared.option.Option.{Option}
 use Rattle.listing.specs.Scripts.{listing}
 use Rattle.listing.specs.Parts.{beginning, call_text, call_next, joined}
 use Rattle.listing.specs.declared.Cursor.{Cursor}
@@ -27,4 +29,9 @@ pub record HandsOver (s : List ℕ) (taken : Bool) (count : ℕ) : Type 0 where
 -- of a reading: the listing of the bytes read; of one that failed, nothing
 abbrev pub Lists : Input → List ℕ → Bool → ℕ → Type 0
 Lists (Bytes n) buf taken count = HandsOver (take n buf) taken count
-Lists Failed buf taken count = count ≡ 0
+Lists (Failed e) buf taken count = count ≡ 0
+
+-- what reaches the output of a reading: the listing of the bytes read, where it took all; of one that failed, nothing
+abbrev pub Arrives : Option (List ℕ) → Option (List ℕ) → Input → List ℕ → Bool → Type 0
+Arrives before after (Bytes n) buf taken = taken ≡ true → Appends before after (listing (take n buf))
+Arrives before after (Failed e) buf taken = Keeps before after

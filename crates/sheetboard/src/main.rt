@@ -1,38 +1,50 @@
 // The program: reads a script from standard input, lists it in parts, and hands each part to standard output. Nothing of the rules is decided here.
-// What passes between a process and its files no contract can say, so four lines are to be read: the call of `libc::read` (in the crate reading), the call of
-// `list_read` in `main`, which lists what was read, the call of `hand_over`, which is handed the start of the buffer, and that of `io::write_all`.
+// What passes between a process and its files no contract can say. What `list_input` promises it promises of any reader and any writer whose
+// bytes are known, so one line is to be read: the call in `main` that gives it standard input and standard output.
 #![tactic(auto)]
 
-ghost use Rattle.std.specs.Prelude.{◌≡◌, length};
+ghost use Rattle.std.specs.Prelude.{◌≡◌, length, is_ok, OnOk, IfSome};
+ghost use Rattle.std.specs.Io.KnownBytes.{Appends};
 ghost use Rattle.reading.specs.Input.{ReadBetween};
+ghost use Rattle.listing.specs.Scripts.{listing};
+ghost use Rattle.listing.specs.Parts.{call_text};
 ghost use Rattle.listing.specs.Turns.{bytes_of};
-ghost use Rattle.sheetboard.specs.Output.{Hands, HandsOver, Lists};
+ghost use Rattle.sheetboard.specs.Output.{Hands, HandsOver, Lists, Arrives};
 
-use libc::STDOUT_FILENO;
 use listing::Cursor;
 use placing::Wrote;
 use reading::{Input, read_input};
+use std::io;
+use std::io::{Read, Write};
 
 // What the output was handed: how many bytes, and whether it took all of them.
 #[derive(Clone, Copy)]
 struct Handed {
-    taken: bool,
+    taken: io::Result<()>,
     count: usize,
 }
 
 // A part handed to the output: how many bytes, whether the output took them, and the cursor behind it.
 #[derive(Clone, Copy)]
 struct Turn {
-    taken: bool,
+    taken: io::Result<()>,
     count: usize,
     cursor: Cursor,
 }
 
+// What kept the script from being listed whole, and why.
+#[derive(Clone, Copy)]
+enum Failure {
+    Reading(io::Error),
+    Writing(io::Error),
+}
+
 // What is counted is what the output is handed.
-fn hand_over(part: &[u8]) -> Handed
-    ensures { result.count ≡ length part.now }
+fn hand_over<W: Write>(to: &mut W, part: &[u8]) -> Handed
+    ensures count { result.count ≡ length part.now }
+    ensures bytes { OnOk result.taken (Appends (W.contents to.old) (W.contents to.new) part.now) }
 {
-    let taken = io::write_all(STDOUT_FILENO, part);
+    let taken = to.write_all(part);
     Handed {
         taken,
         count: part.len(),
@@ -49,14 +61,15 @@ fn count_of(w: Wrote) -> usize
 }
 
 // Lists one part and hands it to the output, from the start of the buffer.
-fn write_part(c: Cursor, script: &[u8], out: &mut [u8]) -> Turn
-    ensures { Hands c script.now (length out.old) result.count result.cursor out.new }
+fn write_part<W: Write>(to: &mut W, c: Cursor, script: &[u8], out: &mut [u8]) -> Turn
+    ensures part { Hands c script.now (length out.old) result.count result.cursor out.new }
+    ensures bytes { OnOk result.taken (Appends (W.contents to.old) (W.contents to.new) (call_text c script.now (length out.old))) }
 {
     let p = listing::list_part(c, script, out);
     let cursor = p.cursor;
     let wrote = p.wrote;
     let count = count_of(wrote);
-    let handed = hand_over(&out[0..count]);
+    let handed = hand_over(to, &out[0..count]);
     Turn {
         taken: handed.taken,
         count: handed.count,
@@ -65,52 +78,68 @@ fn write_part(c: Cursor, script: &[u8], out: &mut [u8]) -> Turn
 }
 
 // Part by part until the listing ends, or the output takes no more.
-fn list(script: &[u8]) -> Handed
-    ensures { HandsOver script.now result.taken result.count }
+fn list<W: Write>(to: &mut W, script: &[u8]) -> Handed
+    ensures handed { HandsOver script.now (is_ok result.taken) result.count }
+    ensures bytes { OnOk result.taken (Appends (W.contents to.old) (W.contents to.new) (listing script.now)) }
 {
     let mut out = [0u8; 32768];
     let mut c = listing::beginning();
     let mut count: usize = 0;
     while !listing::is_ended(c, script) {
-        let t = write_part(c, script, &mut out);
+        let t = write_part(to, c, script, &mut out);
         count += t.count;
         let taken = t.taken;
-        if !taken {
+        if taken.is_err() {
             return Handed { taken, count };
         }
         let next = t.cursor;
         c = next;
     }
-    Handed { taken: true, count }
+    Handed {
+        taken: Ok(()),
+        count,
+    }
 }
 
 // Lists the bytes that were read; where a read failed, nothing.
-fn list_read(read: Input, buf: &[u8]) -> Handed
+fn list_read<W: Write>(to: &mut W, read: Input, buf: &[u8]) -> Handed
     requires { ReadBetween 0 (length buf.now) read }
-    ensures { Lists read buf.now result.taken result.count }
+    ensures handed { Lists read buf.now (is_ok result.taken) result.count }
+    ensures bytes { Arrives (W.contents to.old) (W.contents to.new) read buf.now (is_ok result.taken) }
 {
     match read {
-        Input::Bytes(n) => list(&buf[0..n]),
-        Input::Failed => Handed {
-            taken: true,
+        Input::Bytes(n) => list(to, &buf[0..n]),
+        Input::Failed(_) => Handed {
+            taken: Ok(()),
             count: 0,
         },
     }
 }
 
-// The buffer has one byte more than a script may have, so reading stops once it is clear that the script is too long. What failed is told before
-// any other call, since errno says why.
-fn main() {
-    let mut input = io::large_buffer();
-    let read = read_input(&mut input);
-    let handed = list_read(read, &input);
-    let complete = handed.taken;
+// Reads a script and lists it. The buffer has one byte more than a script may have, so reading stops once it is clear that the script is too long.
+fn list_input<R: Read, W: Write>(input: &mut R, to: &mut W) -> Result<(), Failure>
+    ensures { OnOk result (IfSome (R.remaining input.old) (λ s. Appends (W.contents to.old) (W.contents to.new) (listing s))) }
+{
+    let mut buf = [0u8; 65536];
+    let read = read_input(input, &mut buf);
+    let handed = list_read(to, read, &buf);
     match read {
-        Input::Failed => os::fail(b"sheetboard: reading standard input"),
-        Input::Bytes(_) => {
-            if !complete {
-                os::fail(b"sheetboard: writing standard output");
-            }
-        }
+        Input::Failed(cause) => Err(Failure::Reading(cause)),
+        Input::Bytes(_) => handed.taken.map_err(Failure::Writing),
     }
+}
+
+fn main(rt: HostRuntime) {
+    let listed = list_input(&mut rt.stdin(), &mut io::writer(&rt));
+    let told = match listed {
+        Ok(()) => Ok(()),
+        Err(Failure::Reading(cause)) => {
+            eprintln!(rt; "sheetboard: reading standard input: {cause}")
+        }
+        Err(Failure::Writing(cause)) => {
+            eprintln!(rt; "sheetboard: writing standard output: {cause}")
+        }
+    };
+    // Where that line cannot be written either, there is nobody left to tell.
+    let _ = told;
 }

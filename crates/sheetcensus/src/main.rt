@@ -5,8 +5,8 @@
 mod cells;
 mod rows;
 
-use libc::STDOUT_FILENO;
 use rows::row;
+use std::io;
 
 // How many boards there are: four trees, one or two slots, delay 0 or 1.
 const BOARDS: u16 = 16;
@@ -14,38 +14,30 @@ const BOARDS: u16 = 16;
 // Lengths 0 to 4.
 const LENGTHS: u16 = 5;
 
-pub(crate) fn hand_over(text: &[u8]) -> bool {
-    io::write_all(STDOUT_FILENO, text)
+pub(crate) fn hand_over(to: &impl Print, text: &[u8]) -> io::Result<()> {
+    to.write_all(text)
 }
 
 // An empty line, then a row for each length.
-fn board_rows(board: u16) -> bool {
-    if !hand_over(b"\n") {
-        return false;
-    }
+fn board_rows(to: &impl Print, board: u16) -> io::Result<()> {
+    hand_over(to, b"\n")?;
     for length in 0..LENGTHS {
-        if !row(board, length) {
-            return false;
-        }
+        row(to, board, length)?;
     }
-    true
+    Ok(())
 }
 
-// False where the output takes no more.
-fn table() -> bool {
-    if !hand_over(&cells::COLUMNS) {
-        return false;
-    }
+// Fails where the output takes no more.
+fn table(to: &impl Print) -> io::Result<()> {
+    hand_over(to, &cells::COLUMNS)?;
     for board in 0..BOARDS {
-        if !board_rows(board) {
-            return false;
-        }
+        board_rows(to, board)?;
     }
-    true
+    Ok(())
 }
 
-fn main() {
-    if !table() {
-        os::fail(b"sheetcensus: writing standard output");
+fn main(rt: HostRuntime) {
+    if let Err(cause) = table(&rt) {
+        let _ = eprintln!(rt; "sheetcensus: writing standard output: {cause}");
     }
 }

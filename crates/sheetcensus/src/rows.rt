@@ -2,6 +2,7 @@
 use crate::cells::{ROW_BYTES, put_count, put_share, put_text};
 use crate::hand_over;
 use census::{Counted, Ends};
+use std::io;
 
 // A board by its number: the tree counts up last, the delay first.
 fn tree(board: u16) -> u16 {
@@ -56,7 +57,7 @@ fn put_census(c: Counted, line: &mut [u8]) {
     }
 }
 
-pub(crate) fn row(board: u16, length: u16) -> bool {
+pub(crate) fn row(to: &impl Print, board: u16, length: u16) -> io::Result<()> {
     let mut line = [b' '; ROW_BYTES];
     line[ROW_BYTES - 1] = b'\n';
     put_count(slots(board) as u64, &mut line, 5);
@@ -64,5 +65,5 @@ pub(crate) fn row(board: u16, length: u16) -> bool {
     put_parents(tree(board), &mut line, 21);
     put_count(length as u64, &mut line, 29);
     put_census(counted(board, length), &mut line);
-    hand_over(&line)
+    hand_over(to, &line)
 }

@@ -1,22 +1,31 @@
 // How many steps a boat may still need: the program reads a script from standard input, and tells how long the longest drain is from the
 // board that the script leaves, or the number that refuses it. The library decides both; the words are decided here.
-// What passes between a process and its files no contract can say, so five lines are to be read: the call of `libc::read` (in the crate
-// reading), the call of `tell_read` in `main`, which is handed what was read, that of `tell` in it, and in `tell` the call of `put_told`,
-// which is handed the script, and that of `io::write_all`.
+// What passes between a process and its files no contract can say. What `tell_input` promises it promises of any reader and any writer whose
+// bytes are known, so one line is to be read: the call in `main` that gives it standard input and standard output.
 #![tactic(auto)]
 
 mod lines;
 
-ghost use Rattle.std.specs.Prelude.{◌≡◌, ◌≤◌, length};
+ghost use Rattle.std.specs.Prelude.{◌≡◌, ◌≤◌, length, OnOk, IfSome};
+ghost use Rattle.std.specs.Io.KnownBytes.{Appends};
 ghost use Rattle.reading.specs.Input.{ReadBetween};
 ghost use Rattle.sheetdrain.specs.Drains.{script_drain};
 ghost use Rattle.sheetdrain.specs.Lines.{line_of, Puts};
+ghost use Rattle.sheetdrain.specs.Output.{Tells};
 
 use drains::{Longest, longest_length};
-use libc::STDOUT_FILENO;
 use lines::{LINE, put_line};
 use listing::ending;
 use reading::{Input, read_input};
+use std::io;
+use std::io::{Read, Write};
+
+// What kept the line from being told, and why.
+#[derive(Clone, Copy)]
+enum Failure {
+    Reading(io::Error),
+    Writing(io::Error),
+}
 
 // A script whose first line is refused leaves no board to ask about.
 fn drain_of(script: &[u8]) -> Longest
@@ -40,35 +49,51 @@ fn put_told(script: &[u8], line: &mut [u8]) -> usize
     put_line(told, line)
 }
 
-// False where the output takes no more.
-fn tell(script: &[u8]) -> bool {
+// Fails where the output takes no more.
+fn tell<W: Write>(to: &mut W, script: &[u8]) -> io::Result<()>
+    ensures { OnOk result (Appends (W.contents to.old) (W.contents to.new) (line_of (script_drain script.now))) }
+{
     let mut line = [b' '; LINE];
     let n = put_told(script, &mut line);
-    io::write_all(STDOUT_FILENO, &line[0..n])
+    to.write_all(&line[0..n])
 }
 
 // Tells of the bytes that were read; where a read failed, nothing.
-fn tell_read(read: Input, buf: &[u8]) -> bool
+fn tell_read<W: Write>(to: &mut W, read: Input, buf: &[u8]) -> io::Result<()>
     requires { ReadBetween 0 (length buf.now) read }
+    ensures { OnOk result (Tells (W.contents to.old) (W.contents to.new) read buf.now) }
 {
     match read {
-        Input::Bytes(n) => tell(&buf[0..n]),
-        Input::Failed => true,
+        Input::Bytes(n) => tell(to, &buf[0..n]),
+        Input::Failed(_) => Ok(()),
     }
 }
 
-// The buffer has one byte more than a script may have, so reading stops once it is clear that the script is too long. What failed is told
-// before any other call, since errno says why.
-fn main() {
-    let mut input = io::large_buffer();
-    let read = read_input(&mut input);
-    let taken = tell_read(read, &input);
+// Reads a script and tells of it. The buffer has one byte more than a script may have, so reading stops once it is clear that the script is too
+// long.
+fn tell_input<R: Read, W: Write>(input: &mut R, to: &mut W) -> Result<(), Failure>
+    ensures { OnOk result (IfSome (R.remaining input.old) (λ s. Appends (W.contents to.old) (W.contents to.new) (line_of (script_drain s)))) }
+{
+    let mut buf = [0u8; 65536];
+    let read = read_input(input, &mut buf);
+    let taken = tell_read(to, read, &buf);
     match read {
-        Input::Failed => os::fail(b"sheetdrain: reading standard input"),
-        Input::Bytes(_) => {
-            if !taken {
-                os::fail(b"sheetdrain: writing standard output");
-            }
-        }
+        Input::Failed(cause) => Err(Failure::Reading(cause)),
+        Input::Bytes(_) => taken.map_err(Failure::Writing),
     }
+}
+
+fn main(rt: HostRuntime) {
+    let told = tell_input(&mut rt.stdin(), &mut io::writer(&rt));
+    let line = match told {
+        Ok(()) => Ok(()),
+        Err(Failure::Reading(cause)) => {
+            eprintln!(rt; "sheetdrain: reading standard input: {cause}")
+        }
+        Err(Failure::Writing(cause)) => {
+            eprintln!(rt; "sheetdrain: writing standard output: {cause}")
+        }
+    };
+    // Where that line cannot be written either, there is nobody left to tell.
+    let _ = line;
 }

@@ -1,13 +1,11 @@
 -- Clamped places do no harm on a sound sheet: where the place checks pass, the clamp is the identity; where one fails, the records are not used.
 use mathlib.Core.Path.{◌≡◌, sym, ap, ◌∙◌}
-use mathlib.Core.Bool.{cond}
 use Prim.Native.Nat.{ℕ, min, ◌≤◌}
 use native.Mathlib.Omega.{arith}
-use lib.Dec.{eqb}
 use Rattle.rules.specs.Facts.{Claims, judge}
 use Rattle.rules.specs.Sheets.Sheet.{Sheet, unit_at, slot_at, parent_at}
 use Rattle.rules.specs.Sheets.Sound.{Sound}
-use Rattle.rules.specs.Letters.{unit_by, slot_of, place_checks}
+use Rattle.rules.specs.Letters.{unit_by, slot_of}
 use Rattle.rules.specs.Sheets.Steps.{unit_of, made_at, places_on, effect_by, applied}
 use Rattle.rules.specs.Effects.{record_rule}
 use Rattle.rules.specs.declared.StepRecord.{StepRecord}
@@ -17,20 +15,12 @@ use Rattle.rules.specs.declared.Effect.{Effect}
 use Rattle.rules.specs.declared.Effect.TheVariants.{Refused}
 use Rattle.rules.proofs.FactLaws.{asked, fact_shown}
 use Rattle.rules.proofs.Sheets.EntryLaws.{receiver_in_use}
-use Rattle.rules.proofs.JudgeLaws.{judge_by_number, judge_same}
+use Rattle.rules.proofs.JudgeLaws.{judge_same}
 use Rattle.rules.proofs.Sheets.Changes.{judged_applied}
-use Rattle.rules.proofs.Sheets.Accepted.{place_numbered}
-
--- the effect unless the place is refused
-abbrev unless : ℕ → Effect → Effect
-unless k e = cond (eqb k 0) e (Refused k)
 
 -- the rule on the records at a unit and a slot
 abbrev pub rule_at : Sheet → StepRecord → Action → ℕ → ℕ → Effect
 rule_at b r a u s = record_rule b.debt b.delay r (unit_at b u) (parent_at b u) (slot_at b s) (made_at b u) a
-
-pub placed_effect : (n m : ℕ) (r : StepRecord) (a : Action) (k : ℕ) (e f : Effect) → k ≡ judge (λ j. j) (place_checks n m r a) 0 → f ≡ unless k e → f ≡ judge Refused (place_checks n m r a) e
-placed_effect n m r a k e f k-is f-is = f-is ∙ ap (λ (j : ℕ). unless j e) k-is ∙ sym (judge_by_number Refused (place_checks n m r a) e (place_numbered n m r a))
 
 module _ (b : Sheet) (h : Sound b) where
   -- a step that passes its place checks has its unit and its slot within the arrays

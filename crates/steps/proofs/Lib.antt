@@ -1,11 +1,6 @@
-pub mod Flags
 pub mod Clamping
 pub mod Changing
 pub mod StepLaws
 pub mod BatchLaws
 pub mod AnswersLaws
-pub mod Walking
-pub mod Lending
-pub mod PlainData
-pub mod RunCall
-pub mod StepCall
+pub mod RunLaws

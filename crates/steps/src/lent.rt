@@ -18,6 +18,7 @@ pub fn step_lent(b: &mut Board, r: StepRecord) -> u16
 }
 
 // 0, or the number that refuses a run before any step: 30, then 15.
+#[tactic(auto, unfolding(crate::specs::Turns::run_refusal))]
 fn run_refusal(b: Board, steps: usize, room: usize) -> u16
     ensures { result ≡ run_refusal b steps room }
 {

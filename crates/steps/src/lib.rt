@@ -80,6 +80,7 @@ pub(crate) fn acted(mut b: Board, r: StepRecord, tested: bool) -> Outcome
 }
 
 // A step on any board: one that is not sound is refused before all else.
+#[tactic(auto, using(crate::proofs::StepLaws::step_meets))]
 pub fn step(b: Board, r: StepRecord) -> Outcome
     ensures { StepMeets b r result.answer result.board }
 {

@@ -10,6 +10,7 @@ use crate::sending::{send, start};
 use rules::{Action, Effect, Slot, StepRecord, UnitRecord};
 
 // What a step does on the unit x, whose parent is p and which has created work so often, and the slot y.
+#[tactic(auto, unfolding(rules::specs::Effects::record_rule))]
 pub(crate) fn record_rule(
     debt: u64,
     delay: u16,

@@ -19,9 +19,9 @@ none_taken b = carries b []
 told_so : (b : Board) (v : Verdict) → v ≡ verdict b → (v ≡ Finished → Complete b) × (sound b ≡ true → Complete b → v ≡ Finished)
 told_so b v e = subst (λ (w : Verdict). (w ≡ Finished → Complete b) × (sound b ≡ true → Complete b → w ≡ Finished)) (sym e) (finished_tells b)
 
-refused_lem : (b : Board) → sound b ≡ false → Refused 30 ≡ verdict b
+not_sound : (b : Board) → sound b ≡ false → Refused 30 ≡ verdict b
 unfolding verdict
-refused_lem b e = rw e
+not_sound b e = rw e
 
 paid : (b : Board) → sound b ≡ true → b.debt ≡ 0 → Finished ≡ verdict b
 unfolding verdict
@@ -33,7 +33,7 @@ owing b e d = rw (e, ne_eqb b.debt 0 d)
 
 pub returns-then-not-is_sound : goal.returns-then-not-is_sound
 returns-then-not-is_sound c =
-    let e : Refused 30 ≡ verdict c.args.b = refused_lem c.args.b (cc) in
+    let e : Refused 30 ≡ verdict c.args.b = not_sound c.args.b (cc) in
     record { told = e; complete = told_so c.args.b (Refused 30) e; carried = none_taken c.args.b }
 
 pub returns-then-debt-eq0 : goal.returns-then-debt-eq0

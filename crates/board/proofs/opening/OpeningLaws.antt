@@ -49,9 +49,6 @@ all_placed ps i e = rw e (ap (λ (r : List ℕ). 0 ∷ r ++ replicate (63 - leng
 opening_numbered : (m d : ℕ) (ps : List ℕ) → Numbered (opening_checks m d ps)
 opening_numbered m d ps = omega arith
 
-pub few_parents : (m d : ℕ) (ps : List ℕ) → refusal_number (opening_checks m d ps) ≡ 0 → length ps ≤ 63
-few_parents m d ps e = (number_claims (opening_checks m d ps) (opening_numbered m d ps) e).0
-
 -- what an opening hands back with the answer k
 pub opening_accepted : (m d : ℕ) (ps : List ℕ) → refusal_number (opening_checks m d ps) ≡ 0 → opening m d ps ≡ record { answer = 0; board = fresh m d ps }
 unfolding opening

@@ -110,9 +110,6 @@ linked_more free ps i table p l h = record {
   blank = λ j. get_or-set_other table i (64 + j) (goes free (get_or ps i 0)) no_leg (λ e. omega (arith, p, e)) ∙ h.blank j;
 }
 
-pub linked_all : (free : ℕ) (ps : List ℕ) (table : List Leg) → Linked free ps 64 table → Laid free ps [] table
-linked_all free ps table h = record { links = h.linked; starts = h.blank }
-
 -- ---- the legs of a unit and of a slot, by what the loops ask of it
 -- one leg where the test says so, else none
 abbrev pub leg_if : Bool → Leg → List Leg

@@ -2,7 +2,7 @@
 use mathlib.Core.Path.{◌≡◌, refl, sym, ap, subst, ◌∙◌}
 use mathlib.Core.List.{List}
 use Prim.Native.Nat.{ℕ, ◌+◌, ◌*◌, ◌≤◌, ◌<◌, zero-le}
-use native.Mathlib.Nat.{mul-le-mul, add-mul, le_antisymm}
+use native.Mathlib.Nat.{add-mul, le_antisymm}
 use native.Mathlib.Numerals.{add-one}
 use native.Mathlib.Decide.{ℕ_discrete}
 use native.Mathlib.Omega.{arith}
@@ -19,12 +19,6 @@ use Rattle.rules.proofs.SumLaws.{sum_bound, sum_taken}
 use Rattle.rules.proofs.Sheets.SoundLaws.{below_or_not, row_past, parent_below, slot_past_row}
 use Rattle.rules.proofs.Sheets.EntryLaws.{receiver_in_use}
 use Rattle.rules.proofs.Sheets.DepthLaws.{depth_parent}
-
--- d + 2 for each of some units, as large as 16 bits allow
-pub few_steps : (d k : ℕ) → d < 65536 → k < 65536 → (d + 2) * k < 8589934592
-few_steps d k l m =
-    let most : (d + 2) * k ≤ 65537 * 65535 = mul-le-mul {n₁ = d + 2} {m₁ = k} {n₂ = 65537} {m₂ = 65535} (omega (arith, l)) (omega (arith, m)) in
-    omega (arith, most)
 
 -- parts alike, the same sum
 sum_alike : {A : Type 0} (f g : ℕ → A → ℕ) (xs : List A) (d : A) → ((i : ℕ) → i < length xs → f i (get_or xs i d) ≡ g i (get_or xs i d)) → sum_of f xs ≡ sum_of g xs

@@ -178,9 +178,9 @@ module _ (c : Cursor) (s out : List ℕ) (begun : c.begun ≡ false) {o : Outcom
       fits_or_short (first_piece s).text 0 out (λ h. absurd (omega (arith, z, some, bytes_are, ap bytes_of (wrote_fits (first_piece s).text 0 out h))))
       (λ h. subst (λ (x : List ℕ). Gives c s out r x) (sym (filled_is ∙ written_short (first_piece s).text 0 out h)) (first_27 c s out begun (omega (arith, h)) e))
 
-  module _ (wrote-some : n ≡ 0 → ⊥) {at : ℕ} (place : at ≡ start_place s o.answer) where
+  module _ (wrote_some : n ≡ 0 → ⊥) {at : ℕ} (place : at ≡ start_place s o.answer) where
     it_fits : length (first_piece s).text ≤ length out
-    it_fits = fits_or_short (first_piece s).text 0 out (λ h. omega (arith, h)) (λ h. absurd (wrote-some (omega (arith, bytes_are, ap bytes_of (wrote_short (first_piece s).text 0 out h)))))
+    it_fits = fits_or_short (first_piece s).text 0 out (λ h. omega (arith, h)) (λ h. absurd (wrote_some (omega (arith, bytes_are, ap bytes_of (wrote_short (first_piece s).text 0 out h)))))
 
     length_is : n ≡ length (first_piece s).text
     length_is = bytes_are ∙ ap bytes_of (wrote_fits (first_piece s).text 0 out (omega (arith, it_fits)))

@@ -15,7 +15,7 @@ pub sheet_guarantee : (f : Sheet) → Sound f → f.debt ≡ 0 → (rs : List St
 sheet_guarantee f s e rs =
     let h : Sound (after f rs) = list_keeps_sound f rs s in
     record {
-      is_sound_lem = h;
+      is_sound = h;
       conserved = h.s5_s6_debt.0;
       accounted = debt_account f rs s ∙ omega (arith, e);
       finished = finished_complete (after f rs) h;

@@ -1,0 +1,20 @@
+-- The laws of a batch, on what the calls gave.
+use native.Mathlib.Omega.{arith}
+use Rattle.rules.proofs.SoundLaws.{sound_claims}
+use Rattle.listing.proofs.LengthLaws.{lines_most}
+use Rattle.listing.proofs.turns.TurnLaws.{turn_kept, turn_wrote}
+use Rattle.listing.proofs.turns.turn.Goals as goal
+
+pub write_rows-w-requires : goal.write_rows-w-requires
+write_rows-w-requires c =
+    (omega (arith, c.gather-g.ensures.count, lines_most c.batch_size.result c.args.p.at c.args.script.now, c.batch_size.ensures), c.requires.1)
+
+pub returns-then-w-to : goal.returns-then-w-to
+returns-then-w-to c =
+    turn_kept c.args.p c.args.script.now c.args.out.now (sound_claims c.args.p.board c.requires.0) c.requires.1 (omega (arith, c.well_formed)) c.gather-g.result
+    (rw c.batch_size.ensures at c.gather-g.ensures) c.run_batch-done.result c.run_batch-done.ensures.value c.write_rows-w.result _ c.write_rows-w.ensures c.if-w-to.true
+
+pub returns : goal.returns
+returns c =
+    turn_wrote c.args.p c.args.script.now c.args.out.now (sound_claims c.args.p.board c.requires.0) c.requires.1 (omega (arith, c.well_formed)) c.gather-g.result
+    (rw c.batch_size.ensures at c.gather-g.ensures) c.run_batch-done.result c.run_batch-done.ensures.value c.write_rows-w.result _ c.write_rows-w.ensures c.if-w-to.false

@@ -1,9 +1,0 @@
--- `slot_place` meets its contract: it is what its callees say.
-use Rattle.steps.proofs.changes.slot_place.Statement.{statement}
-use Rattle.steps.proofs.changes.slot_place.Tie as tie
-
-returns : tie.Need-returns
-returns c = simp (c.clamped.ensures, c.before.slot_of.ensures, c.before.before.action.ensures)
-
-pub slot-place-spec : {M : Type 1} → statement M
-slot-place-spec = tie.close (tie.spec (λ c κs. tt) (λ c κs. tt) (λ c κs. tt) returns)

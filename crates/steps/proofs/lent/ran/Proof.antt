@@ -1,7 +1,0 @@
--- `ran` meets its contract: the test is the definition's.
-use borrow.Author.Tests.{eq-eqb, ne_eqb}
-use Rattle.steps.proofs.lent.ran.Statement.{statement}
-use Rattle.steps.proofs.lent.ran.Tie as tie
-
-pub ran-spec : {M : Type 1} → statement M
-ran-spec = tie.close (tie.spec (λ c. simp (eq-eqb _ _ c.if1.true)) (λ c. simp (ne_eqb _ _ c.if1.false)))
