@@ -3,7 +3,6 @@ ghost use Rattle.std.specs.Prelude.{◌≤◌};
 
 use crate::{GRANT, LARGEST, MOST, edits};
 use rules::{Board, Kind, Slot, State, UnitRecord};
-use std::num::{wrapping_add_u16, wrapping_add_u64, wrapping_sub_u16, wrapping_sub_u64};
 
 // The first entries by number, then the last.
 fn entry(k: usize, first: usize, last: usize) -> usize
@@ -20,8 +19,8 @@ fn near(x: u16, k: usize) -> u16 {
     match k {
         0 => 0,
         1 => 1,
-        2 => wrapping_sub_u16(x, 1),
-        3 => wrapping_add_u16(x, 1),
+        2 => x.wrapping_sub(1),
+        3 => x.wrapping_add(1),
         _ => 65535,
     }
 }
@@ -52,7 +51,7 @@ fn parents(b: Board, k: usize) -> Board {
 
 fn unit(x: UnitRecord, k: usize) -> UnitRecord {
     match k {
-        0 => edits::weighing(x, wrapping_add_u64(x.weight, 1)),
+        0 => edits::weighing(x, x.weight.wrapping_add(1)),
         1 => edits::weighing(x, 0),
         2 => edits::counting(x, 1),
         3 => edits::counting(x, 3),
@@ -83,7 +82,7 @@ fn kind(k: usize) -> Kind {
 fn carried(weight: u64, k: usize) -> u64 {
     match k {
         0 => 0,
-        1 => wrapping_add_u64(weight, 1),
+        1 => weight.wrapping_add(1),
         _ => GRANT,
     }
 }
@@ -110,8 +109,8 @@ fn slots(b: Board, k: usize) -> Board {
 
 fn debt(x: u64, k: usize) -> u64 {
     match k {
-        0 => wrapping_add_u64(x, 1),
-        1 => wrapping_sub_u64(x, 1),
+        0 => x.wrapping_add(1),
+        1 => x.wrapping_sub(1),
         2 => 0,
         3 => MOST,
         4 => MOST + 1,

@@ -1,6 +1,5 @@
 // The line of a board: its number, and what the calls answer.
 use casetext::put_row;
-use libc::STDOUT_FILENO;
 use placing::Wrote;
 use rules::{Board, Depth, StepRecord, Verdict};
 
@@ -21,17 +20,17 @@ const DELIVER_0: StepRecord = StepRecord {
     slot: 0,
 };
 
-pub(crate) fn print(text: &[u8]) {
-    io::write_all(STDOUT_FILENO, text);
+pub(crate) fn print(to: &impl Print, text: &[u8]) {
+    let _ = to.write_all(text);
 }
 
-fn row(k: usize, cells: &[u64]) {
+fn row(to: &impl Print, k: usize, cells: &[u64]) {
     let mut line = [0u8; MOST_BYTES];
     let Wrote::Count(n) = put_row(k as u64, cells, &mut line, 0) else {
         return;
     };
     if n <= MOST_BYTES {
-        print(&line[0..n]);
+        print(to, &line[0..n]);
     }
 }
 
@@ -66,19 +65,19 @@ fn refusal(d: Depth) -> u64 {
 }
 
 // The number, whether the board is sound and whether it is finished, the depth of unit 4, and the answer of a tick.
-pub(crate) fn damaged(k: usize, b: Board) {
+pub(crate) fn damaged(to: &impl Print, k: usize, b: Board) {
     let sound = soundness(board::is_sound(b));
     let state = verdict(board::finished(b));
     let d = board::depth_of(b, 4);
     let answer = steps::step(b, TICK_2).answer as u64;
-    row(k, &[sound, state, depth(d), refusal(d), answer]);
+    row(to, k, &[sound, state, depth(d), refusal(d), answer]);
 }
 
 // The same with a delivery's answer, and the debt after it.
-pub(crate) fn limit(k: usize, b: Board) {
+pub(crate) fn limit(to: &impl Print, k: usize, b: Board) {
     let sound = soundness(board::is_sound(b));
     let state = verdict(board::finished(b));
     let out = steps::step(b, DELIVER_0);
     let c = out.board;
-    row(k, &[sound, state, out.answer as u64, c.debt]);
+    row(to, k, &[sound, state, out.answer as u64, c.debt]);
 }

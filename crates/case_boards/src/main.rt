@@ -29,26 +29,26 @@ const FIELDS_AND_DEBT: usize = 454;
 const LIMITS: usize = 18;
 
 // The base board and so many damages.
-fn damages_table(base: Board, count: usize, balanced: bool) {
+fn damages_table(to: &impl Print, base: Board, count: usize, balanced: bool) {
     for k in 0..count {
         let b = damages::damaged(base, k);
-        lines::damaged(k, weights::settled(b, balanced));
+        lines::damaged(to, k, weights::settled(b, balanced));
     }
 }
 
-fn limits_table() {
+fn limits_table(to: &impl Print) {
     for k in 0..LIMITS {
-        lines::limit(k, limits::limit(k));
+        lines::limit(to, k, limits::limit(k));
     }
 }
 
-fn main() {
-    print(b"damaged\n");
-    damages_table(bases::working(), FIELDS_AND_DEBT, false);
-    print(b"balanced\n");
-    damages_table(bases::working(), FIELDS, true);
-    print(b"suspended\n");
-    damages_table(bases::suspended(), FIELDS, true);
-    print(b"limits\n");
-    limits_table();
+fn main(rt: HostRuntime) {
+    print(&rt, b"damaged\n");
+    damages_table(&rt, bases::working(), FIELDS_AND_DEBT, false);
+    print(&rt, b"balanced\n");
+    damages_table(&rt, bases::working(), FIELDS, true);
+    print(&rt, b"suspended\n");
+    damages_table(&rt, bases::suspended(), FIELDS, true);
+    print(&rt, b"limits\n");
+    limits_table(&rt);
 }

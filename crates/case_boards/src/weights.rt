@@ -1,32 +1,31 @@
 // The debt as the sum of all weights, and a created count that makes the counts agree.
 use crate::edits;
 use rules::Board;
-use std::num::{wrapping_add_u64, wrapping_sub_u64};
 
 fn of_units(b: Board) -> u64 {
-    let mut sum = 0;
+    let mut sum: u64 = 0;
     for i in 0..64 {
         let x = b.units[i];
-        sum = wrapping_add_u64(sum, x.weight);
+        sum = sum.wrapping_add(x.weight);
     }
     sum
 }
 
 fn of_slots(b: Board) -> u64 {
-    let mut sum = 0;
+    let mut sum: u64 = 0;
     for j in 0..256 {
         let y = b.slots[j];
-        sum = wrapping_add_u64(sum, y.weight);
+        sum = sum.wrapping_add(y.weight);
     }
     sum
 }
 
 fn work_under_way(b: Board) -> u64 {
-    let mut sum = 0;
+    let mut sum: u64 = 0;
     for j in 0..256 {
         let y = b.slots[j];
         let k = y.kind;
-        sum = wrapping_add_u64(sum, k.is_work() as u64);
+        sum = sum.wrapping_add(k.is_work() as u64);
     }
     sum
 }
@@ -35,14 +34,14 @@ fn work_under_way(b: Board) -> u64 {
 fn owed(b: Board) -> u64 {
     let mut sum = b.created[0] as u64;
     for i in 0..64 {
-        sum = wrapping_add_u64(sum, wrapping_sub_u64(b.processed[i], b.created[i] as u64));
+        sum = sum.wrapping_add(b.processed[i].wrapping_sub(b.created[i] as u64));
     }
     sum
 }
 
 // Unit 0's created count, where all counts agree; on these boards it is small.
 fn agreeing(b: Board) -> u32 {
-    let count = wrapping_add_u64(owed(b), work_under_way(b));
+    let count = owed(b).wrapping_add(work_under_way(b));
     if count > 4294967295 {
         return 4294967295;
     }
@@ -55,5 +54,5 @@ pub(crate) fn settled(b: Board, balanced: bool) -> Board {
         return b;
     }
     let c = edits::with_created(b, 0, agreeing(b));
-    edits::with_debt(c, wrapping_add_u64(of_units(b), of_slots(b)))
+    edits::with_debt(c, of_units(b).wrapping_add(of_slots(b)))
 }

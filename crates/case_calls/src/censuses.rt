@@ -93,9 +93,10 @@ fn ends(c: Counted) -> Ends {
     }
 }
 
-fn told(k: usize, a: Asked, c: Counted) {
+fn told(to: &impl Print, k: usize, a: Asked, c: Counted) {
     let e = ends(c);
     row(
+        to,
         k,
         &[
             a.m as u64,
@@ -113,7 +114,7 @@ fn told(k: usize, a: Asked, c: Counted) {
 }
 
 // Call k of the table.
-pub(crate) fn call(k: usize) {
+pub(crate) fn call(to: &impl Print, k: usize) {
     let a = asked_at(k);
-    told(k, a, counted(a));
+    told(to, k, a, counted(a));
 }

@@ -4,7 +4,6 @@ ghost use Rattle.std.specs.Prelude.{◌≤◌};
 use crate::lines::row;
 use crate::writers;
 use placing::Wrote;
-use std::num::{wrapping_add_u64, wrapping_add_usize, wrapping_sub_usize};
 
 const BYTES: usize = 40;
 
@@ -34,9 +33,9 @@ fn at_most_40(x: usize) -> usize
 fn room(length: usize, k: usize) -> usize {
     match k {
         0 => 0,
-        1 => wrapping_sub_usize(length, 1),
+        1 => length.wrapping_sub(1),
         2 => length,
-        3 => wrapping_add_usize(length, 1),
+        3 => length.wrapping_add(1),
         _ => BYTES,
     }
 }
@@ -46,7 +45,7 @@ fn place(room: usize, k: usize) -> usize {
         0 => 0,
         1 => 1,
         2 => room,
-        3 => wrapping_add_usize(room, 1),
+        3 => room.wrapping_add(1),
         _ => LARGEST,
     }
 }
@@ -69,21 +68,22 @@ fn count(w: Wrote) -> u64 {
 
 // Each byte counts once more than its index says: from the last byte on, what was added so far is added up.
 fn checksum(buffer: [u8; BYTES]) -> u64 {
-    let mut bytes = 0;
-    let mut sum = 0;
+    let mut bytes: u64 = 0;
+    let mut sum: u64 = 0;
     for i in 0..BYTES {
-        bytes = wrapping_add_u64(bytes, buffer[BYTES - 1 - i] as u64);
-        sum = wrapping_add_u64(sum, bytes);
+        bytes = bytes.wrapping_add(buffer[BYTES - 1 - i] as u64);
+        sum = sum.wrapping_add(bytes);
     }
     sum
 }
 
-fn told(k: usize, w: usize, room: usize, at: usize)
+fn told(to: &impl Print, k: usize, w: usize, room: usize, at: usize)
     requires { room ≤ 40 }
 {
     let mut buffer = [b'.'; BYTES];
     let wrote = writers::write(w, &mut buffer[0..room], at);
     row(
+        to,
         k,
         &[
             writers::name(w),
@@ -97,8 +97,8 @@ fn told(k: usize, w: usize, room: usize, at: usize)
 }
 
 // Call k of the table whose first writer is given: five rooms for each writer, with each of them five places.
-pub(crate) fn call(k: usize, first: usize) {
-    let w = wrapping_add_usize(first, k / 25);
+pub(crate) fn call(to: &impl Print, k: usize, first: usize) {
+    let w = first.wrapping_add(k / 25);
     let room = at_most_40(room(length_of(w), k % 25 / 5));
-    told(k, w, room, place(room, k % 5));
+    told(to, k, w, room, place(room, k % 5));
 }

@@ -21,32 +21,32 @@ const HEADS: usize = 125;
 // The least census, the largest, and 22 that are refused.
 const CENSUSES: usize = 24;
 
-fn runs_table() {
+fn runs_table(to: &impl Print) {
     for k in 0..RUNS {
-        runs::run(k);
+        runs::run(to, k);
     }
 }
 
 // So many calls of the writers from the first on.
-fn writers_table(first: usize, calls: usize) {
+fn writers_table(to: &impl Print, first: usize, calls: usize) {
     for k in 0..calls {
-        edges::call(k, first);
+        edges::call(to, k, first);
     }
 }
 
-fn censuses_table() {
+fn censuses_table(to: &impl Print) {
     for k in 0..CENSUSES {
-        censuses::call(k);
+        censuses::call(to, k);
     }
 }
 
-fn main() {
-    print(b"runs\n");
-    runs_table();
-    print(b"writes\n");
-    writers_table(0, WRITES);
-    print(b"heads\n");
-    writers_table(writers::STEPS, HEADS);
-    print(b"censuses\n");
-    censuses_table();
+fn main(rt: HostRuntime) {
+    print(&rt, b"runs\n");
+    runs_table(&rt);
+    print(&rt, b"writes\n");
+    writers_table(&rt, 0, WRITES);
+    print(&rt, b"heads\n");
+    writers_table(&rt, writers::STEPS, HEADS);
+    print(&rt, b"censuses\n");
+    censuses_table(&rt);
 }

@@ -54,8 +54,9 @@ fn zeros(r: Ran) -> u64 {
 }
 
 // What was asked, what the run gives, what the whole buffer holds after it, and the debt.
-fn line(k: usize, asked: [u64; 3], ran: Ran, buffer: [u16; 5], debt: u64) {
+fn line(to: &impl Print, k: usize, asked: [u64; 3], ran: Ran, buffer: [u16; 5], debt: u64) {
     row(
+        to,
         k,
         &[
             asked[0],
@@ -73,7 +74,7 @@ fn line(k: usize, asked: [u64; 3], ran: Ran, buffer: [u16; 5], debt: u64) {
     );
 }
 
-fn told(k: usize, b: Board, count: usize, room: usize)
+fn told(to: &impl Print, k: usize, b: Board, count: usize, room: usize)
     requires { room ≤ 5 }
 {
     let mut buffer: [u16; 5] = [99; 5];
@@ -81,10 +82,10 @@ fn told(k: usize, b: Board, count: usize, room: usize)
     let c = r.board;
     let ran = r.ran;
     let asked = [soundness(b), count as u64, room as u64];
-    line(k, asked, ran, buffer, c.debt);
+    line(to, k, asked, ran, buffer, c.debt);
 }
 
 // Run k of the table: both boards, on each five lengths of the list, with each of them six of the buffer.
-pub(crate) fn run(k: usize) {
-    told(k, fresh(k < 30), k % 30 / 6, k % 6);
+pub(crate) fn run(to: &impl Print, k: usize) {
+    told(to, k, fresh(k < 30), k % 30 / 6, k % 6);
 }

@@ -33,12 +33,12 @@ fn block_end(text: &[u8], from: usize) -> usize
     at
 }
 
-pub(crate) fn all(text: &[u8]) {
+pub(crate) fn all(to: &impl Print, text: &[u8]) {
     let mut at = 0;
     while at < text.len() {
         let script = behind(text, at);
         let end = block_end(text, script);
-        tell::block(&text[at..script], &text[script..end]);
+        tell::block(to, &text[at..script], &text[script..end]);
         at = behind(text, end);
     }
 }

@@ -4,10 +4,10 @@
 mod blocks;
 mod tell;
 
-use libc::STDIN_FILENO;
+use reading::read_full;
 
-fn main() {
-    let mut input = io::large_buffer();
-    let n = io::read_full(STDIN_FILENO, &mut input);
-    blocks::all(&input[0..n]);
+fn main(rt: HostRuntime) {
+    let mut input = [0u8; 65536];
+    let n = read_full(&mut rt.stdin(), &mut input);
+    blocks::all(&rt, &input[0..n]);
 }

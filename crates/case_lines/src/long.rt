@@ -9,24 +9,24 @@ fn zero_line(begin: &[u8]) -> [u8; 256] {
 }
 
 // Its first bytes as a later line.
-pub(crate) fn zeros(begin: &[u8], bytes: usize) {
+pub(crate) fn zeros(to: &impl Print, begin: &[u8], bytes: usize) {
     let line = zero_line(begin);
     if bytes <= 256 {
-        later(&line[0..bytes]);
+        later(to, &line[0..bytes]);
     }
 }
 
 // The same as a first line, and the same read for its parents.
-pub(crate) fn first_zeros(begin: &[u8], bytes: usize) {
+pub(crate) fn first_zeros(to: &impl Print, begin: &[u8], bytes: usize) {
     let line = zero_line(begin);
     if bytes <= 256 {
-        first(&line[0..bytes]);
-        three_parents(&line[0..bytes]);
+        first(to, &line[0..bytes]);
+        three_parents(to, &line[0..bytes]);
     }
 }
 
 // A board line of its length, each number of which is 1.
-pub(crate) fn ones(bytes: usize) {
+pub(crate) fn ones(to: &impl Print, bytes: usize) {
     let mut line = [b'1'; 256];
     placing::put_bytes(b"board", &mut line, 0);
     let mut i = 5;
@@ -35,6 +35,6 @@ pub(crate) fn ones(bytes: usize) {
         i += 2;
     }
     if bytes <= 256 {
-        first(&line[0..bytes]);
+        first(to, &line[0..bytes]);
     }
 }

@@ -7,8 +7,8 @@ mod runs;
 mod sends;
 mod whole;
 
-fn main() {
-    whole::all();
-    sends::all();
-    runs::all();
+fn main(rt: HostRuntime) {
+    whole::all(&rt);
+    sends::all(&rt);
+    runs::all(&rt);
 }

@@ -28,44 +28,44 @@ fn is_written(k: u64, answer: u16) -> bool {
     k % 100 == 0 || answer != 0
 }
 
-fn line(k: u64, answer: u16, b: Board) {
+fn line(to: &impl Print, k: u64, answer: u16, b: Board) {
     let x = b.units[0];
-    row(k, &[answer as u64, x.weight]);
+    row(to, k, &[answer as u64, x.weight]);
 }
 
 // Send k, from unit 0 to unit 1 by slot 0, and its delivery.
-fn send(b: Board, k: u64) -> Board {
+fn send(to: &impl Print, b: Board, k: u64) -> Board {
     let out = step(b, SEND, 1);
     if is_written(k, out.answer) {
-        line(k, out.answer, out.board);
+        line(to, k, out.answer, out.board);
     }
     step(out.board, DELIVER, 0).board
 }
 
-fn sends(mut b: Board) -> Board {
+fn sends(to: &impl Print, mut b: Board) -> Board {
     for k in 1..SENDS {
-        b = send(b, k);
+        b = send(to, b, k);
     }
     b
 }
 
 // The last send that is accepted, and the next.
-fn last_sends(b: Board) -> Board {
+fn last_sends(to: &impl Print, b: Board) -> Board {
     let last = step(b, SEND, 1);
-    line(SENDS, last.answer, last.board);
+    line(to, SENDS, last.answer, last.board);
     let c = step(last.board, DELIVER, 0).board;
     let next = step(c, SEND, 1);
-    line(SENDS + 1, next.answer, next.board);
+    line(to, SENDS + 1, next.answer, next.board);
     next.board
 }
 
-pub(crate) fn all() {
-    text(b"send\tanswer\tleft\n");
+pub(crate) fn all(to: &impl Print) {
+    text(to, b"send\tanswer\tleft\n");
     let fresh = board::open(1, 0, &[0]).board;
-    let b = last_sends(sends(step(fresh, START, 0).board));
+    let b = last_sends(to, sends(to, step(fresh, START, 0).board));
     let y = b.units[1];
-    text(b"received\t");
-    row(y.weight, &NOTHING);
-    text(b"debt\t");
-    row(b.debt, &NOTHING);
+    text(to, b"received\t");
+    row(to, y.weight, &NOTHING);
+    text(to, b"debt\t");
+    row(to, b.debt, &NOTHING);
 }

@@ -10,34 +10,34 @@ use crate::print::text;
 use fields::end_from;
 use rules::Board;
 
-fn turn(b: Board, line: &[u8]) -> Board {
+fn turn(to: &impl Print, b: Board, line: &[u8]) -> Board {
     let end = line.len();
     if end == 0 {
         return b;
     }
     if line[0] == b'#' {
-        text(line);
-        text(b"\n");
+        text(to, line);
+        text(to, b"\n");
         return b;
     }
     let middle = end_from(line, 0, b';');
     if middle < end {
         let behind = middle + 1;
-        pairs::tell(b, &line[0..middle], &line[behind..end]);
+        pairs::tell(to, b, &line[0..middle], &line[behind..end]);
         return b;
     }
-    if check::same(line, b"round") {
+    if line == b"round".as_slice() {
         return counted(b);
     }
     built(b, line)
 }
 
-pub(crate) fn all(input: &[u8]) {
+pub(crate) fn all(to: &impl Print, input: &[u8]) {
     let mut b = board::blank();
     let mut at = 0;
     while at < input.len() {
         let end = end_from(input, at, b'\n');
-        b = turn(b, &input[at..end]);
+        b = turn(to, b, &input[at..end]);
         if end == input.len() {
             return;
         }

@@ -5,31 +5,31 @@ use crate::same::same_boards;
 use rules::{Board, StepRecord};
 
 // Tells what both steps answer, the second on the board that the first left.
-fn in_order(b: Board, first: StepRecord, second: StepRecord) -> Board {
+fn in_order(to: &impl Print, b: Board, first: StepRecord, second: StepRecord) -> Board {
     let x = steps::step(b, first);
     let y = steps::step(x.board, second);
-    cell(x.answer as u64);
-    cell(y.answer as u64);
+    cell(to, x.answer as u64);
+    cell(to, y.answer as u64);
     y.board
 }
 
-fn tell_same(same: bool) {
+fn tell_same(to: &impl Print, same: bool) {
     if same {
-        text(b"\tsame\n");
+        text(to, b"\tsame\n");
     } else {
-        text(b"\tdiffer\n");
+        text(to, b"\tdiffer\n");
     }
 }
 
-pub(crate) fn tell(b: Board, first: &[u8], second: &[u8]) {
-    text(first);
-    text(b";");
-    text(second);
+pub(crate) fn tell(to: &impl Print, b: Board, first: &[u8], second: &[u8]) {
+    text(to, first);
+    text(to, b";");
+    text(to, second);
     let q = step_of(first);
     let r = step_of(second);
-    text(b"\tgives");
-    let x = in_order(b, q, r);
-    text(b"\tand");
-    let y = in_order(b, r, q);
-    tell_same(same_boards(x, y));
+    text(to, b"\tgives");
+    let x = in_order(to, b, q, r);
+    text(to, b"\tand");
+    let y = in_order(to, b, r, q);
+    tell_same(to, same_boards(x, y));
 }

@@ -3,7 +3,6 @@ ghost use Rattle.std.specs.Prelude.{◌≤◌};
 
 use crate::words;
 use rules::{Board, Kind, Outcome, Round, Rounds, Slot, State, StepRecord, UnitRecord};
-use std::num::{wrapping_add_u32, wrapping_sub_u32};
 
 // The most parents that a case can ask for: more than 8 bits count.
 const MOST: usize = 320;
@@ -71,7 +70,7 @@ fn slot_of(row: [u64; 5]) -> Slot {
 
 // The debt once one weight has become another: it stays the sum of all weights, modulo 2^64.
 fn moved(debt: u64, before: u64, after: u64) -> u64 {
-    std::num::wrapping_add_u64(std::num::wrapping_sub_u64(debt, before), after)
+    debt.wrapping_sub(before).wrapping_add(after)
 }
 
 fn with_unit(mut b: Board, row: [u64; 5]) -> Board {
@@ -100,7 +99,9 @@ fn with_slot(mut b: Board, row: [u64; 5]) -> Board {
         let y = slot_of(row);
         let old = b.slots[j];
         b.debt = moved(b.debt, old.weight, y.weight);
-        b.created[0] = wrapping_add_u32(wrapping_sub_u32(b.created[0], work_in(old)), work_in(y));
+        b.created[0] = b.created[0]
+            .wrapping_sub(work_in(old))
+            .wrapping_add(work_in(y));
         b.slots[j] = y;
     }
     b

@@ -5,8 +5,8 @@
 //   run TITLE   the cases that follow are told, each on the board that the one before it left
 //   each TITLE  the cases that follow are told, each on the same board
 // Any other line is a case, but for an empty one and one that begins with #.
+use crate::cases::case_of;
 use crate::print::{newline, text};
-use crate::reading::case_of;
 use crate::words::place_of;
 use crate::{edits, tell};
 use fields::{end_from, field};
@@ -46,47 +46,47 @@ fn kept(p: Play) -> Play {
     }
 }
 
-fn titled(p: Play, word: usize, line: &[u8]) -> Play {
-    text(field(line, 1));
-    newline();
+fn titled(to: &impl Print, p: Play, word: usize, line: &[u8]) -> Play {
+    text(to, field(line, 1));
+    newline(to);
     on(p, word, p.board)
 }
 
-fn case(p: Play, line: &[u8]) -> Play {
+fn case(to: &impl Print, p: Play, line: &[u8]) -> Play {
     let row = case_of(line);
     let word = p.word;
     match word {
-        RUN => on(p, RUN, tell::case(p.board, row)),
+        RUN => on(p, RUN, tell::case(to, p.board, row)),
         EACH => {
-            tell::case(p.board, row);
+            tell::case(to, p.board, row);
             p
         }
         _ => on(p, word, edits::after(p.board, row)),
     }
 }
 
-fn worded(p: Play, line: &[u8]) -> Play {
+fn worded(to: &impl Print, p: Play, line: &[u8]) -> Play {
     let k = place_of(field(line, 0), &WORDS, 5);
     match k {
         BLANK => on(p, BLANK, board::blank()),
         KEEP => kept(p),
         STAGE => on(p, STAGE, p.stage),
-        RUN | EACH => titled(p, k, line),
-        _ => case(p, line),
+        RUN | EACH => titled(to, p, k, line),
+        _ => case(to, p, line),
     }
 }
 
-fn turn(p: Play, line: &[u8]) -> Play {
+fn turn(to: &impl Print, p: Play, line: &[u8]) -> Play {
     if line.len() == 0 {
         return p;
     }
     if line[0] == b'#' {
         return p;
     }
-    worded(p, line)
+    worded(to, p, line)
 }
 
-pub(crate) fn all(input: &[u8]) {
+pub(crate) fn all(to: &impl Print, input: &[u8]) {
     let b = board::blank();
     let mut p = Play {
         word: BLANK,
@@ -96,7 +96,7 @@ pub(crate) fn all(input: &[u8]) {
     let mut at = 0;
     while at < input.len() {
         let end = end_from(input, at, b'\n');
-        p = turn(p, &input[at..end]);
+        p = turn(to, p, &input[at..end]);
         if end == input.len() {
             return;
         }

@@ -1,18 +1,18 @@
 // The cases of standard input: openings, steps, depths and damages, each told with what the calls answer.
 #![tactic(auto)]
 
+mod cases;
 mod changes;
 mod edits;
 mod lines;
 mod print;
-mod reading;
 mod tell;
 mod words;
 
-use libc::STDIN_FILENO;
+use reading::read_full;
 
-fn main() {
-    let mut input = io::large_buffer();
-    let n = io::read_full(STDIN_FILENO, &mut input);
-    lines::all(&input[0..n]);
+fn main(rt: HostRuntime) {
+    let mut input = [0u8; 65536];
+    let n = read_full(&mut rt.stdin(), &mut input);
+    lines::all(&rt, &input[0..n]);
 }

@@ -1,54 +1,53 @@
 // Words and numbers on standard output. No contract can say what arrives there: what is written is compared.
 use casetext::put_verdict;
 use fields::field;
-use libc::STDOUT_FILENO;
 use placing::Wrote;
 use rules::{Depth, Verdict};
 
-pub(crate) fn text(t: &[u8]) {
-    io::write_all(STDOUT_FILENO, t);
+pub(crate) fn text(to: &impl Print, t: &[u8]) {
+    let _ = to.write_all(t);
 }
 
-pub(crate) fn number(n: u64) {
-    io::print_decimal(STDOUT_FILENO, n);
+pub(crate) fn number(to: &impl Print, n: u64) {
+    let _ = to.print(n);
 }
 
-pub(crate) fn tab() {
-    text(b"\t");
+pub(crate) fn tab(to: &impl Print) {
+    text(to, b"\t");
 }
 
-pub(crate) fn newline() {
-    text(b"\n");
+pub(crate) fn newline(to: &impl Print) {
+    text(to, b"\n");
 }
 
 // A tab and a number.
-pub(crate) fn cell(n: u64) {
-    tab();
-    number(n);
+pub(crate) fn cell(to: &impl Print, n: u64) {
+    tab(to);
+    number(to, n);
 }
 
 // The word at a place among words that are parted by tabs.
-pub(crate) fn word(words: &[u8], k: usize) {
-    text(field(words, k));
+pub(crate) fn word(to: &impl Print, words: &[u8], k: usize) {
+    text(to, field(words, k));
 }
 
 // What finished tells, or the number of a refusal.
-pub(crate) fn verdict(v: Verdict) {
+pub(crate) fn verdict(to: &impl Print, v: Verdict) {
     let mut out = [0u8; 20];
     let Wrote::Count(n) = put_verdict(v, &mut out, 0) else {
         return;
     };
     if n <= 20 {
-        text(&out[0..n]);
+        text(to, &out[0..n]);
     }
 }
 
-pub(crate) fn depth(d: Depth) {
+pub(crate) fn depth(to: &impl Print, d: Depth) {
     match d {
         Depth::Deep(x) => {
-            text(b"deep");
-            cell(x as u64);
+            text(to, b"deep");
+            cell(to, x as u64);
         }
-        Depth::Refused(k) => number(k as u64),
+        Depth::Refused(k) => number(to, k as u64),
     }
 }

@@ -5,70 +5,70 @@ use crate::{changes, edits, print, words};
 use rules::{Board, Finding, Outcome, StepRecord};
 
 // Answer, debt and verdict, then what is not as on the board a.
-fn outcome(a: Board, out: Outcome, kept: &[u8]) -> Board {
+fn outcome(to: &impl Print, a: Board, out: Outcome, kept: &[u8]) -> Board {
     let b = out.board;
-    cell(out.answer as u64);
-    cell(b.debt);
-    tab();
-    print::verdict(board::finished(b));
-    changes::tell(a, b, kept);
+    cell(to, out.answer as u64);
+    cell(to, b.debt);
+    tab(to);
+    print::verdict(to, board::finished(b));
+    changes::tell(to, a, b, kept);
     b
 }
 
 // The word of a step's kind; a kind outside 1 to 8 has only its number.
-fn kind(k: u64) {
+fn kind(to: &impl Print, k: u64) {
     if 0 < k && k < 9 {
-        word(&KINDS, k as usize - 1);
+        word(to, &KINDS, k as usize - 1);
     } else {
-        number(k);
+        number(to, k);
     }
 }
 
 // The numbers of a case from one on.
-fn cells(row: [u64; 5], from: usize) {
+fn cells(to: &impl Print, row: [u64; 5], from: usize) {
     for i in from..5 {
-        cell(row[i]);
+        cell(to, row[i]);
     }
 }
 
-fn step(b: Board, row: [u64; 5]) -> Board {
-    kind(row[1]);
-    cells(row, 2);
-    outcome(b, steps::step(b, edits::step_of(row)), b"kept")
+fn step(to: &impl Print, b: Board, row: [u64; 5]) -> Board {
+    kind(to, row[1]);
+    cells(to, row, 2);
+    outcome(to, b, steps::step(b, edits::step_of(row)), b"kept")
 }
 
-fn name(row: [u64; 5]) {
-    word(&CASES, row[0] as usize);
-    cells(row, 1);
+fn name(to: &impl Print, row: [u64; 5]) {
+    word(to, &CASES, row[0] as usize);
+    cells(to, row, 1);
 }
 
 // What an opening hands back is held against a blank board.
-fn opening(row: [u64; 5]) -> Board {
-    name(row);
-    outcome(board::blank(), edits::opened(row), b"blank")
+fn opening(to: &impl Print, row: [u64; 5]) -> Board {
+    name(to, row);
+    outcome(to, board::blank(), edits::opened(row), b"blank")
 }
 
-fn depth(b: Board, row: [u64; 5]) -> Board {
-    text(b"depth");
-    cell(row[1]);
-    tab();
-    print::depth(board::depth_of(b, edits::small(row[1])));
-    newline();
+fn depth(to: &impl Print, b: Board, row: [u64; 5]) -> Board {
+    text(to, b"depth");
+    cell(to, row[1]);
+    tab(to);
+    print::depth(to, board::depth_of(b, edits::small(row[1])));
+    newline(to);
     b
 }
 
-fn begin(b: Board) -> Board {
-    text(b"begin");
-    outcome(b, rounds::begin(b), b"kept")
+fn begin(to: &impl Print, b: Board) -> Board {
+    text(to, b"begin");
+    outcome(to, b, rounds::begin(b), b"kept")
 }
 
 // The finding's word.
-fn finding(x: Finding) {
+fn finding(to: &impl Print, x: Finding) {
     match x {
-        Finding::NoVerdict => text(b"no verdict yet"),
-        Finding::AllQuiet => text(b"quiet"),
-        Finding::Unsettled => text(b"unsettled"),
-        Finding::Refused(_) => text(b"refused"),
+        Finding::NoVerdict => text(to, b"no verdict yet"),
+        Finding::AllQuiet => text(to, b"quiet"),
+        Finding::Unsettled => text(to, b"unsettled"),
+        Finding::Refused(_) => text(to, b"refused"),
     }
 }
 
@@ -82,24 +82,24 @@ fn number_of(x: Finding) -> u16 {
     }
 }
 
-fn visit(b: Board, row: [u64; 5]) -> Board {
-    text(b"visit");
-    cell(row[1]);
-    tab();
+fn visit(to: &impl Print, b: Board, row: [u64; 5]) -> Board {
+    text(to, b"visit");
+    cell(to, row[1]);
+    tab(to);
     let v = rounds::visit(b, edits::small(row[1]));
     let x = v.finding;
-    finding(x);
+    finding(to, x);
     let answer = number_of(x);
     let board = v.board;
     let out = Outcome { board, answer };
-    outcome(b, out, b"kept")
+    outcome(to, b, out, b"kept")
 }
 
-fn soundness(sound: bool) {
+fn soundness(to: &impl Print, sound: bool) {
     if sound {
-        text(b"sound");
+        text(to, b"sound");
     } else {
-        text(b"unsound");
+        text(to, b"unsound");
     }
 }
 
@@ -112,28 +112,28 @@ const TICK_0: StepRecord = StepRecord {
 };
 
 // Whether the edited board is sound, and what a step, depth and finished answer.
-fn edit(b: Board, row: [u64; 5]) -> Board {
+fn edit(to: &impl Print, b: Board, row: [u64; 5]) -> Board {
     let c = edits::after(b, row);
-    name(row);
-    tab();
-    soundness(board::is_sound(c));
-    cell(steps::step(c, TICK_0).answer as u64);
-    tab();
-    print::depth(board::depth_of(c, 0));
-    tab();
-    print::verdict(board::finished(c));
-    newline();
+    name(to, row);
+    tab(to);
+    soundness(to, board::is_sound(c));
+    cell(to, steps::step(c, TICK_0).answer as u64);
+    tab(to);
+    print::depth(to, board::depth_of(c, 0));
+    tab(to);
+    print::verdict(to, board::finished(c));
+    newline(to);
     c
 }
 
 // Runs a case, writes what it gives, and hands back the board after it.
-pub(crate) fn case(b: Board, row: [u64; 5]) -> Board {
+pub(crate) fn case(to: &impl Print, b: Board, row: [u64; 5]) -> Board {
     match row[0] {
-        words::OPEN | words::CHAIN => opening(row),
-        words::STEP => step(b, row),
-        words::DEPTH => depth(b, row),
-        words::BEGIN => begin(b),
-        words::VISIT => visit(b, row),
-        _ => edit(b, row),
+        words::OPEN | words::CHAIN => opening(to, row),
+        words::STEP => step(to, b, row),
+        words::DEPTH => depth(to, b, row),
+        words::BEGIN => begin(to, b),
+        words::VISIT => visit(to, b, row),
+        _ => edit(to, b, row),
     }
 }

@@ -65,7 +65,7 @@ pub(crate) const KINDS: [u8; 49] = *b"start\tsend\trequest\tdeliver\trest\ttick\
 pub(crate) fn place_of(word: &[u8], words: &[u8], count: usize) -> usize {
     let mut k = 0;
     while k < count {
-        if check::same(word, field(words, k)) {
+        if word == field(words, k) {
             return k;
         }
         k += 1;

@@ -1,7 +1,7 @@
 -- One read of the input, behind the bytes that were read before.
 -- For private contracts only; a reader of the claim may skip this.
 use Rattle.std.specs.Prelude.{◌≡◌, List, ℕ, ◌+◌, ◌-◌, ◌<◌, min, length, take, drop, Result, Ok, Err}
-use Rattle.std.specs.Io.KnownBytes.{Consumes, IsAtEnd}
+use Rattle.std.specs.Io.KnownBytes.{Consumes, IsAtEnd, Keeps}
 use Rattle.std.specs.declared.option.Option.{Option}
 use Rattle.std.specs.declared.io.Error.{Error}
 use Rattle.reading.specs.Input.{ReadBetween}
@@ -18,7 +18,7 @@ pub record ReadsOn (at : ℕ) (before : List ℕ) (read : Input) (after : List �
   pub kept : take at after ≡ take at before
   pub within : ReadBetween at (length before) read
 
--- the bytes that it puts there are the next that the reader had left; none only where it has none left or there is no room
+-- the bytes that it puts there are the next that the reader had left, none only where it has none left or there is no room; a read that fails takes none
 abbrev pub GivesOn : ℕ → Option (List ℕ) → Option (List ℕ) → Input → List ℕ → Type 0
 GivesOn at before after (Bytes n) buf = Consumes before after (take (n - at) (drop at buf)) × (n ≡ at → at < length buf → IsAtEnd after)
-GivesOn at before after (Failed e) buf = Unit {0}
+GivesOn at before after (Failed e) buf = Keeps before after

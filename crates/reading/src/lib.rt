@@ -1,8 +1,9 @@
-// The reading of an input into a buffer, where a read that fails is told from the end. Which bytes come from the standard input no contract
-// can say, so the call of `read` is to be read.
+// The reading of an input into a buffer, where a read that fails is told from the end. Of any reader whose bytes are known the contracts say
+// which of them were read; of standard input none are.
 #![tactic(auto)]
 
-ghost use Rattle.std.specs.Prelude.{◌≡◌, ◌≤◌, length};
+ghost use Rattle.std.specs.Prelude.{◌≡◌, ◌≤◌, length, take};
+ghost use Rattle.std.specs.Io.KnownBytes.{Consumes};
 ghost use Rattle.reading.specs.Input.{ReadBetween, Gives};
 ghost use Rattle.reading.specs.Reads.{told_by, ReadsOn, GivesOn};
 
@@ -55,4 +56,22 @@ pub fn read_input<R: Read>(input: &mut R, buf: &mut [u8]) -> Input
         count = behind;
     }
     Input::Bytes(count)
+}
+
+// The same where a failure need not be told from the end: how many bytes are at the start of the buffer.
+pub fn read_full<R: Read>(input: &mut R, buf: &mut [u8]) -> usize
+    ensures bound { result ≤ length buf.new }
+    ensures bytes { Consumes (R.remaining input.old) (R.remaining input.new) (take result buf.new) }
+{
+    let mut count: usize = 0;
+    while count < buf.len() {
+        let Input::Bytes(behind) = read_more(input, buf, count) else {
+            return count;
+        };
+        if behind == count {
+            return count;
+        }
+        count = behind;
+    }
+    count
 }

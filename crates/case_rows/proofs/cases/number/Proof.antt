@@ -1,7 +1,7 @@
 -- The measure is the number of digits that are left.
 use Rattle.std.proofs.Common.{◌-◌, ◌≤◌, length, rules}
-use Rattle.case_rows.proofs.reading.number.Statement.{statement}
-use Rattle.case_rows.proofs.reading.number.Tie as tie
+use Rattle.case_rows.proofs.cases.number.Statement.{statement}
+use Rattle.case_rows.proofs.cases.number.Tie as tie
 
 abbrev invariant-loop : tie.invariant-loop
 invariant-loop digits n₀ i₀ i-end n i = i ≤ length digits

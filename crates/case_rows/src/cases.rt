@@ -1,12 +1,11 @@
 // A case read from its line, as five numbers: what it is, and four that go with it. What stands behind them is not read.
 use crate::words::{CASES, KINDS, STEP, place_of};
 use fields::field;
-use std::num::{wrapping_add_u64, wrapping_sub_u64};
 
 fn tenfold(n: u64) -> u64 {
-    let twice = wrapping_add_u64(n, n);
-    let fivefold = wrapping_add_u64(wrapping_add_u64(twice, twice), n);
-    wrapping_add_u64(fivefold, fivefold)
+    let twice = n.wrapping_add(n);
+    let fivefold = twice.wrapping_add(twice).wrapping_add(n);
+    fivefold.wrapping_add(fivefold)
 }
 
 fn wide(c: u8) -> u64 {
@@ -17,7 +16,7 @@ fn wide(c: u8) -> u64 {
 fn number(digits: &[u8]) -> u64 {
     let mut n = 0;
     for i in 0..digits.len() {
-        n = wrapping_add_u64(tenfold(n), wrapping_sub_u64(wide(digits[i]), 48));
+        n = tenfold(n).wrapping_add(wide(digits[i]).wrapping_sub(48));
     }
     n
 }
