@@ -37,9 +37,6 @@ by_others P p1 p4 p5 p6 =
 pub known_in : (k : ℕ) → 1 ≤ k → k ≤ kinds → is_known (action_of k) ≡ true
 known_in = by_kind (λ k. is_known (action_of k) ≡ true) refl refl refl refl refl refl refl refl
 
-pub unknown_zero : (k : ℕ) → k ≡ 0 → is_known (action_of k) ≡ false
-unknown_zero k e = rw e
-
 pub unknown_over : (k : ℕ) → kinds < k → is_known (action_of k) ≡ false
 unknown_over k h = ap is_known (get_or-eq_default (Unknown ∷ Start ∷ Send ∷ RequestStep ∷ Deliver ∷ Rest ∷ Tick ∷ Release ∷ Move ∷ []) Unknown h)
 

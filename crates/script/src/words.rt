@@ -7,34 +7,35 @@ ghost use Rattle.script.specs.Words.{words, word_number};
 use rules::KINDS;
 
 // 0 for board, 1 to KINDS for a step's kind, KINDS + 1 for any other word.
+#[tactic(auto, using(crate::proofs::WordLaws::same_pointwise), unfolding(crate::specs::Words::place_of))]
 pub(crate) fn word_number(w: &[u8]) -> u16
     ensures { result ≡ word_number w.now }
 {
-    if check::same(w, b"board") {
+    if w == b"board".as_slice() {
         return 0;
     }
-    if check::same(w, b"start") {
+    if w == b"start".as_slice() {
         return 1;
     }
-    if check::same(w, b"send") {
+    if w == b"send".as_slice() {
         return 2;
     }
-    if check::same(w, b"request") {
+    if w == b"request".as_slice() {
         return 3;
     }
-    if check::same(w, b"deliver") {
+    if w == b"deliver".as_slice() {
         return 4;
     }
-    if check::same(w, b"rest") {
+    if w == b"rest".as_slice() {
         return 5;
     }
-    if check::same(w, b"tick") {
+    if w == b"tick".as_slice() {
         return 6;
     }
-    if check::same(w, b"release") {
+    if w == b"release".as_slice() {
         return 7;
     }
-    if check::same(w, b"move") {
+    if w == b"move".as_slice() {
         return 8;
     }
     KINDS + 1
