@@ -55,7 +55,7 @@ pub extern "C" fn ayokwelifu_read_step(
     slot: &mut u16,
 ) -> u16
     ensures number { result ≡ refusal_by (reading false line.now) }
-    ensures cells { ◌≡◌ {A = StepRecord} (record { kind = kind.exit.now; unit = unit.new; other = other.new; slot = slot.new }) (step_after (record { kind = kind.entry.now; unit = unit.old; other = other.old; slot = slot.old }) (reading false line.now)) }
+    ensures cells { ◌≡◌ {A = StepRecord} (record { kind = kind.new; unit = unit.new; other = other.new; slot = slot.new }) (step_after (record { kind = kind.old; unit = unit.old; other = other.old; slot = slot.old }) (reading false line.now)) }
 {
     let x = read_line(line, false);
     let old = StepRecord {

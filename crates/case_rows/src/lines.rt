@@ -86,6 +86,7 @@ fn turn(to: &impl Print, p: Play, line: &[u8]) -> Play {
     worded(to, p, line)
 }
 
+#[tactic(auto, using(fields::proofs::PartLaws::end_after, fields::proofs::PartLaws::end_at_most))]
 pub(crate) fn all(to: &impl Print, input: &[u8]) {
     let b = board::blank();
     let mut p = Play {

@@ -190,9 +190,9 @@ unfolding batch
 batch_sound b rs h = rw (sound_tested b h)
 
 -- of script lines that were gathered
-module _ (b : Board) (is_sound_lem : Sound b) (g : Gathered) {ls : List (List ℕ)} {at : ℕ} (gathers : Gathers g ls at) {d : Batch} (ran : d ≡ batch b (take g.count g.steps)) where
+module _ (b : Board) (is_sound : Sound b) (g : Gathered) {ls : List (List ℕ)} {at : ℕ} (gathers : Gathers g ls at) {d : Batch} (ran : d ≡ batch b (take g.count g.steps)) where
   pub batch_done_lem : d ≡ batch_done b (records_of ls)
-  batch_done_lem = ran ∙ ap (batch b) gathers.steps ∙ batch_sound b (records_of ls) is_sound_lem
+  batch_done_lem = ran ∙ ap (batch b) gathers.steps ∙ batch_sound b (records_of ls) is_sound
 
   pub batch_leaves : d.board ≡ board_after b ls
-  batch_leaves = ap (λ (x : Batch). x.board) batch_done_lem ∙ batch_board b ls is_sound_lem
+  batch_leaves = ap (λ (x : Batch). x.board) batch_done_lem ∙ batch_board b ls is_sound

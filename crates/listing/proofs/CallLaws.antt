@@ -78,7 +78,7 @@ unfolding Kept
 not_refused c s room h e l =
     let fits : leb (length (piece c s).text) room ≡ true = le-leb (length (piece c s).text) room (omega (arith, piece_most c s h e)) in
     by_bool (λ t. Claims (asked (check (holds (not t || ended c s || leb (length s) 65535)) 26 ∷ check (holds (not t || ended c s || sound c.board)) 30 ∷ check (holds (ended c s || leb (length (piece c s).text) room)) 27 ∷ []))) c.begun
-    (λ b. (rw (e, le-leb (length s) 65535 (h e b).short), (rw (e, sound_tested c.board (h e b).is_sound_lem), (rw (e, fits), tt)))) (λ b. (refl, (refl, (rw (e, fits), tt))))
+    (λ b. (rw (e, le-leb (length s) 65535 (h e b).short), (rw (e, sound_tested c.board (h e b).is_sound), (rw (e, fits), tt)))) (λ b. (refl, (refl, (rw (e, fits), tt))))
 
 first_empty : (a b : List ℕ) → a ++ b ≡ [] → a ≡ []
 first_empty [] b e = refl

@@ -78,7 +78,7 @@ lines_most (suc k) at s =
 pub record Under (c : Cursor) (s : List ℕ) : Type 0 where
   pub short : length s ≤ 65535
   pub line : c.line ≤ 4294967295
-  pub is_sound_lem : Sound c.board
+  pub is_sound : Sound c.board
 
 unfoldable pub Kept : Cursor → List ℕ → Type 0
 Kept c s = ended c s ≡ false → c.begun ≡ true → Under c s
@@ -92,14 +92,14 @@ unfolding Kept
 first_kept s o x = subst (λ (c : Cursor). ended c s ≡ false → c.begun ≡ true → Under c s) (sym (first_next s o x)) (by_start x)
   where
     by_start : Started s o → ended (start_cursor s o) s ≡ false → true ≡ true → Under (start_cursor s o) s
-    by_start (opened l e h d) p q = record { short = l; line = omega arith; is_sound_lem = h }
+    by_start (opened l e h d) p q = record { short = l; line = omega arith; is_sound = h }
     by_start (refused k n e) p q =
         let z : start_place s o.answer ≡ length s = rw (e, ne_eqb k 0 (λ y. omega (arith, n, y))) in
         absurd (true_not_false (sym (le-leb (length s) (start_place s o.answer) (omega arith)) ∙ p))
 
 later_kept : (c : Cursor) (s : List ℕ) → Under c s → Kept (later_piece c s).next s
 unfolding Kept later_piece
-later_kept c s u p q = record { short = u.short; line = omega arith; is_sound_lem = outcome_sound c.board (reading false (up_to 10 (drop c.at s))) u.is_sound_lem }
+later_kept c s u p q = record { short = u.short; line = omega arith; is_sound = outcome_sound c.board (reading false (up_to 10 (drop c.at s))) u.is_sound }
 
 pub piece_kept : (c : Cursor) (s : List ℕ) → Kept c s → ended c s ≡ false → Kept (piece c s).next s
 unfolding Kept piece first_piece
@@ -119,4 +119,4 @@ pub piece_most : (c : Cursor) (s : List ℕ) → Kept c s → ended c s ≡ fals
 unfolding Kept piece first_piece later_piece
 piece_most c s h e =
     by_cond (λ (p : Piece). length p.text ≤ longest_piece) c.begun
-    (λ b. omega (arith, later_most c.line c.board (up_to 10 (drop c.at s)) (h e b).line (h e b).is_sound_lem)) (λ b. first_most s (start_outcome s) (script_starts s))
+    (λ b. omega (arith, later_most c.line c.board (up_to 10 (drop c.at s)) (h e b).line (h e b).is_sound)) (λ b. first_most s (start_outcome s) (script_starts s))

@@ -1,8 +1,7 @@
 -- Records filled in one by one: those that are there and those that are left are all.
-use mathlib.Core.Path.{◌≡◌, sym, ap, subst, ◌∙◌}
+use mathlib.Core.Path.{◌≡◌, sym, ap, ◌∙◌}
 use mathlib.Core.List.{List, [], ◌∷◌, ◌++◌, append_assoc}
 use Prim.Native.Nat.{ℕ, ◌+◌, ◌*◌, ◌/◌, ◌≤◌, ◌<◌}
-use native.Mathlib.Nat.{add-zero}
 use native.Mathlib.Numerals.{add-one}
 use native.Mathlib.Omega.{arith}
 use lib.ListN.{length, take, drop, set, length-set}
@@ -24,9 +23,6 @@ pub record FillTurn (xs : List ℕ) (from count : ℕ) (rs : List StepRecord) (i
   pub room : length rs ≡ batch_most
   pub filled : Filled xs from i rs
 
-pub fill_begins : (xs : List ℕ) (from count : ℕ) (rs : List StepRecord) → count ≤ batch_most → from + count ≤ length xs / 4 → length rs ≡ batch_most → FillTurn xs from count rs 0
-fill_begins xs from count rs f p l = record { few = f; inside = p; within = omega arith; room = l; filled = ap (λ (j : ℕ). records_in (drop (4 * j) xs)) (add-zero from) }
-
 module _ {xs : List ℕ} {from count : ℕ} {rs : List StepRecord} {i : ℕ} (t : FillTurn xs from count rs i) where
   next_filled : i < count → {r : StepRecord} → r ≡ record_at xs (from + i) → Filled xs from (i + 1) (set rs i r)
   next_filled l {r} e =
@@ -42,8 +38,3 @@ module _ {xs : List ℕ} {from count : ℕ} {rs : List StepRecord} {i : ℕ} (t 
 
   pub turn_goes : i < count → {r : StepRecord} → r ≡ record_at xs (from + i) → FillTurn xs from count (set rs i r) (i + 1)
   turn_goes l {r} e = record { few = t.few; inside = t.inside; within = omega arith; room = length-set rs i r ∙ t.room; filled = next_filled l e }
-
-  pub turn_ends : count ≤ i → Filled xs from count rs
-  turn_ends l =
-      let all : i ≡ count = omega (arith, l, t.within) in
-      subst (λ (k : ℕ). Filled xs from k rs) all t.filled

@@ -3,7 +3,6 @@ use mathlib.Core.Path.{◌≡◌, refl, sym, ap, ◌∙◌}
 use mathlib.Core.Bool.{Bool}
 use mathlib.Core.List.{List, [], ◌∷◌}
 use Prim.Native.Nat.{ℕ, ◌+◌, ◌≤◌, ◌<◌}
-use native.Mathlib.Nat.{zero-add}
 use native.Mathlib.Numerals.{add-one}
 use native.Mathlib.Omega.{arith}
 use lib.ListN.{length, get_or, drop, drop_of_length-le}
@@ -34,9 +33,6 @@ pub record DelayTurn (b₀ : Board) (ds : List ℕ) (b : Board) (count i : ℕ) 
   pub within : i ≤ length ds
   pub counts : count ≤ i
   pub gives : count + sound_with b (drop i ds) ≡ sound_with b₀ ds
-
-pub delays_begin : (b : Board) (ds : List ℕ) → DelayTurn b ds b 0 0
-delays_begin b ds = record { within = omega arith; counts = omega arith; gives = zero-add (sound_with b ds) }
 
 module _ {b₀ : Board} {ds : List ℕ} {b : Board} {count i : ℕ} (t : DelayTurn b₀ ds b count i) where
   pub turn_goes : i < length ds → {s : Bool} {k : ℕ} → s ≡ sound (with_delay b (get_or ds i 0)) → k ≡ one_if s → DelayTurn b₀ ds (with_delay b (get_or ds i 0)) (count + k) (i + 1)

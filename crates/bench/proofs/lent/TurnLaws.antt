@@ -1,7 +1,7 @@
 -- What the loop of `bench_lent` has after some turns: the steps that are left give what the whole list gives.
 use mathlib.Core.Path.{◌≡◌, sym, ◌∙◌, ap}
-use Prim.Native.Nat.{ℕ, suc, ◌+◌, ◌<◌, ◌≤◌, zero-le}
-use native.Mathlib.Nat.{zero-add, add-zero}
+use Prim.Native.Nat.{ℕ, suc, ◌+◌, ◌<◌, ◌≤◌}
+use native.Mathlib.Nat.{add-zero}
 use native.Mathlib.Numerals.{add-one, add-one-le}
 use native.Mathlib.Omega.{arith}
 use mathlib.Core.List.{List, [], ◌∷◌}
@@ -32,9 +32,6 @@ pub record LentTurn (h : Board) (rs : List StepRecord) (b : Board) (z i : ℕ) :
   pub within : i ≤ length rs
   pub few : z ≤ i
   pub gives : z + zeros (answers b (drop i rs)) ≡ zeros (answers h rs)
-
-pub lent_begins : (h : Board) (rs : List StepRecord) → LentTurn h rs h 0 0
-lent_begins h rs = record { within = zero-le; few = zero-le; gives = zero-add (zeros (answers h rs)) }
 
 module _ {h : Board} {rs : List StepRecord} {b : Board} {z i : ℕ} (t : LentTurn h rs b z i) where
   -- the step of the turn

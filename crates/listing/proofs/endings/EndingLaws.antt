@@ -72,7 +72,7 @@ abbrev left : Reached → List ℕ → Board
 left p s = board_after p.board (lines_of (drop p.at s))
 
 pub record EndTurn (p₀ : Reached) (s : List ℕ) (p : Reached) : Type 0 where
-  pub is_sound_lem : p.at < length s → sound p.board ≡ true
+  pub is_sound : p.at < length s → sound p.board ≡ true
   pub gives : left p s ≡ left p₀ s
 
 abbrev batch_reached : Reached → List ℕ → Reached
@@ -88,7 +88,7 @@ batch_reached_lem p s h g gathers {d} ran =
 module _ {p₀ p q : Reached} {s : List ℕ} (t : EndTurn p₀ s p) (more : p.at < length s) (e : q ≡ batch_reached p s) where
   pub end_goes : EndTurn p₀ s q
   end_goes = subst (EndTurn p₀ s) (sym e) (record {
-    is_sound_lem = λ l. sound_tested _ (after_sound p.board (lines_at batch_most p.at s) (sound_claims p.board (t.is_sound_lem more)));
+    is_sound = λ l. sound_tested _ (after_sound p.board (lines_at batch_most p.at s) (sound_claims p.board (t.is_sound more)));
     gives = sym (ap (board_after p.board) (lines_from batch_most p.at s) ∙ after_append p.board (lines_at batch_most p.at s) _) ∙ t.gives;
   })
 

@@ -77,13 +77,13 @@ advances_none p s out l = writes_as (none (cursor_of p)) (part_stopped (suc (len
 pub record LinesTurn (p₀ : Progress) (s out₀ : List ℕ) (p : Progress) (out : List ℕ) : Type 0 where
   pub inside : p.to ≤ length out
   pub same : length out ≡ length out₀
-  pub is_sound_lem : p.at < length s → sound p.board ≡ true
+  pub is_sound : p.at < length s → sound p.board ≡ true
   pub gives : (r : Progress) (left : List ℕ) → WritesPieces (suc (length s)) p s out r left → WritesPieces (suc (length s)) p₀ s out₀ r left
 
 pub lines_go : {p₀ p q : Progress} {s out₀ out mid : List ℕ} {k : ℕ} → LinesTurn p₀ s out₀ p out → p.at < length s → WritesPieces k p s out q mid → LinesTurn p₀ s out₀ q mid
 lines_go {p₀} {p} {q} {s} {out₀} {out} {mid} t l a = record {
   inside = stays_inside a t.inside;
   same = same_length a ∙ t.same;
-  is_sound_lem = λ m. sound_tested q.board (stays_sound a (sound_claims p.board (t.is_sound_lem l)));
+  is_sound = λ m. sound_tested q.board (stays_sound a (sound_claims p.board (t.is_sound l)));
   gives = λ r left b. t.gives r left (advances_then a t.inside b);
 }

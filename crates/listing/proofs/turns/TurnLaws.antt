@@ -58,7 +58,7 @@ turn_text p s out = batch_text p.line p.board (turn_lines p s out)
 abbrev turn_piece : Progress → List ℕ → List ℕ → Piece
 turn_piece p s out = part_within (turn_size p out) (cursor_of p) s (room_of p out)
 
-module _ (p : Progress) (s out : List ℕ) (is_sound_lem : Sound p.board) (inside : p.to ≤ length out) (fits : p.line ≤ 4294967295) where
+module _ (p : Progress) (s out : List ℕ) (is_sound : Sound p.board) (inside : p.to ≤ length out) (fits : p.line ≤ 4294967295) where
   -- what the pieces of the batch are, where their text fits
   part_fits : p.to + length (turn_text p s out) ≤ length out → turn_piece p s out ≡ batch_piece (turn_size p out) p.at p.line p.board s
   part_fits l = part_batched (turn_size p out) p.at p.line p.board s (room_of p out) (omega (arith, l))
@@ -66,7 +66,7 @@ module _ (p : Progress) (s out : List ℕ) (is_sound_lem : Sound p.board) (insid
   -- where it does not, the batch is of one line
   one_line : length out < p.to + length (turn_text p s out) → turn_size p out ≡ 1
   one_line l =
-      let most : length (turn_text p s out) ≤ longest_line * turn_size p out = omega (arith, batch_most_lem p.line p.board (turn_lines p s out) fits is_sound_lem, lines_most (turn_size p out) p.at s) in
+      let most : length (turn_text p s out) ≤ longest_line * turn_size p out = omega (arith, batch_most_lem p.line p.board (turn_lines p s out) fits is_sound, lines_most (turn_size p out) p.at s) in
       below_or_not 1 (turn_size p out) (λ many. absurd (omega (arith, most, l, inside, size_fits (room_of p out) many))) (λ few. omega (arith, few))
 
   part_none : length out < p.to + length (turn_text p s out) → turn_piece p s out ≡ none (cursor_of p)
@@ -77,7 +77,7 @@ module _ (p : Progress) (s out : List ℕ) (is_sound_lem : Sound p.board) (insid
 
   module _ (g : Gathered) (gathers : Gathers g (turn_lines p s out) (place_after (turn_size p out) p.at s)) (d : Batch) (ran : d ≡ batch p.board (take g.count g.steps)) where
     done : d ≡ batch_done p.board (records_of (turn_lines p s out))
-    done = batch_done_lem p.board is_sound_lem g gathers ran
+    done = batch_done_lem p.board is_sound g gathers ran
 
     rows_are : rows_text p.line (take g.count g.refusals) d.answers d.debts ≡ turn_text p s out
     rows_are =
@@ -85,7 +85,7 @@ module _ (p : Progress) (s out : List ℕ) (is_sound_lem : Sound p.board) (insid
         ap (λ (ks : List ℕ). rows_text p.line ks d.answers d.debts) gathers.refusals
         ∙ ap (λ (x : Batch). rows_text p.line (refusals_of (turn_lines p s out)) x.answers x.debts) done
         ∙ rows_padded p.line (refusals_of (turn_lines p s out)) (answers p.board rs) (debts p.board rs) _ _ (omega (arith, refusals_length (turn_lines p s out), records_length (turn_lines p s out), answers_length p.board rs)) (omega (arith, refusals_length (turn_lines p s out), records_length (turn_lines p s out), debts_length p.board rs))
-        ∙ batch_rows p.line p.board (turn_lines p s out) is_sound_lem
+        ∙ batch_rows p.line p.board (turn_lines p s out) is_sound
 
     module _ (w : Rows) (left : List ℕ) (wrote : rows_into p.line (take g.count g.refusals) d.answers d.debts p.to out ≡ record { line = w.line; to = w.to; left = left }) where
       keys : length (take g.count g.refusals) ≡ length (turn_lines p s out)
@@ -127,5 +127,5 @@ module _ (p : Progress) (s out : List ℕ) (is_sound_lem : Sound p.board) (insid
           below_or_not (length out) (p.to + length (turn_text p s out)) (λ l. absurd (n (wrote_none l).0))
           (λ l.
           let all = wrote_all l in
-          writes_as (batch_piece (turn_size p out) p.at p.line p.board s) (part_fits l) (rw (gathers.place, ap (λ (x : Placed). x.line) all, batch_leaves p.board is_sound_lem g gathers ran))
+          writes_as (batch_piece (turn_size p out) p.at p.line p.board s) (part_fits l) (rw (gathers.place, ap (λ (x : Placed). x.line) all, batch_leaves p.board is_sound g gathers ran))
           (ap (λ (x : Placed). x.to) all) (ap (λ (x : Placed). x.left) all))

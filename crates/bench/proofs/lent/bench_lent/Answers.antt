@@ -1,4 +1,4 @@
--- A turn counts one more at most, and leaves what its step leaves.
+-- A turn leaves what its step leaves; after the last nothing is left.
 use Rattle.bench.proofs.lent.TurnLaws.{lent_goes, lent_ends}
 use Rattle.bench.proofs.lent.bench_lent.Goals as goal
 
