@@ -89,7 +89,8 @@ fn list<W: Write>(to: &mut W, script: &[u8]) -> Handed
         let t = write_part(to, c, script, &mut out);
         count += t.count;
         let taken = t.taken;
-        if taken.is_err() {
+        let stopped = taken.is_err();
+        if stopped {
             return Handed { taken, count };
         }
         let next = t.cursor;

@@ -20,8 +20,8 @@ overflow_add-count g c =
     let more : ended c.loop-out.c c.args.script.now ≡ false = sym c.is_ended.ensures ∙ c.loop-out-test.true in
     omega (arith, handing_fits c.loop-out.invariant.handing more c.loop-out.out c.loop-out.invariant.room c.write_part-t.ensures.part)
 
-pub returns-then-is_err-clause-handed : goal.returns-then-is_err-clause-handed
-returns-then-is_err-clause-handed g c =
+pub returns-then-stopped-clause-handed : goal.returns-then-stopped-clause-handed
+returns-then-stopped-clause-handed g c =
     let more : ended c.loop-out.c c.args.script.now ≡ false = sym c.is_ended.ensures ∙ c.loop-out-test.true in
     record {
       follows = (handing_goes c.loop-out.invariant.handing more c.loop-out.out c.loop-out.invariant.room c.write_part-t.ensures.part).follows;
@@ -40,7 +40,7 @@ loop-out-preserved g c =
       room = search rules;
       handing = handing_goes c.loop-out.invariant.handing more c.loop-out.out c.loop-out.invariant.room c.write_part-t.ensures.part;
       bytes = handing_arrives c.loop-out.invariant.handing more c.loop-out.out c.loop-out.invariant.room c.write_part-t.ensures.part _ _ _ c.loop-out.invariant.bytes
-          (on_taken c.write_part-t.result.taken c.if-is_err.ensures.negation c.write_part-t.ensures.bytes);
+          (on_taken c.write_part-t.result.taken (search rules) c.write_part-t.ensures.bytes);
     }
 
 pub returns-clause-handed : goal.returns-clause-handed
