@@ -7,6 +7,10 @@ use native.Mathlib.Nat.{sub-zero}
 use native.Mathlib.Omega.{arith}
 use lib.ListN.{length, take, drop, replicate, length-append}
 use lib.Seq.{sets-eq, take_at, length-take-le}
+use Rattle.std.specs.Prelude.{Result, Ok, Err, is_ok, OnOk}
+use Rattle.std.proofs.KnownBytes.{Appends-trans}
+use Rattle.std.specs.Io.KnownBytes.{Appends}
+use Rattle.std.specs.declared.option.Option.{Option}
 use Rattle.rules.specs.Facts.{Check, check, test, judge}
 use Rattle.rules.proofs.JudgeLaws.{judge_map}
 use Rattle.placing.specs.declared.Wrote.TheVariants.{Count, Refused}
@@ -20,6 +24,11 @@ use Rattle.listing.proofs.PieceLaws.{turns_left}
 use Rattle.listing.proofs.PartLaws.{part_room}
 use Rattle.listing.proofs.CallLaws.{parts_joined, Counting, counting_begins, counting_ends, counting_goes, counting_fits, counting_less}
 use Rattle.sheetboard.specs.Output.{Hands, Follows}
+
+-- what holds where the output took all
+pub on_taken : {T E P : Type 0} (r : Result T E) → is_ok r ≡ true → OnOk r P → P
+on_taken (Ok x) e p = p
+on_taken (Err x) e p = cc
 
 -- ---- one call
 -- a judged text is no longer than its room
@@ -58,11 +67,16 @@ module _ (c : Cursor) (s out : List ℕ) where
     pub counted_fits : count ≤ length out
     counted_fits = omega (arith, counts, call_fits)
 
+    text : take count left ≡ call_text c s (length out)
+    text = rw (counts, b) call_starts
+
     -- what is handed over, the buffer from byte 0 up to byte `count`, are as many bytes as were written
+    pub handed_text : take (count - 0) left ≡ call_text c s (length out)
+    handed_text = ap (λ (k : ℕ). take k left) (sub-zero count) ∙ text
+
     pub hands : {handed : ℕ} → handed ≡ length (take (count - 0) left) → Hands c s (length out) handed p.cursor left
     hands {handed} h =
-        let text : take count left ≡ call_text c s (length out) = rw (counts, b) call_starts in
-        let all : handed ≡ count = h ∙ ap (λ (k : ℕ). length (take k left)) (sub-zero count) ∙ ap length text ∙ sym counts in
+        let all : handed ≡ count = h ∙ ap length handed_text ∙ sym counts in
         record { count_is = all ∙ counts; bytes_are = ap (λ (k : ℕ). take k left) all ∙ text; next_is = ap (λ (x : Part). x.cursor) e ∙ call_cursor }
 
 -- ---- turns one after another, each with the same room
@@ -118,11 +132,24 @@ module _ {s : List ℕ} {c : Cursor} {n : ℕ} (t : Handing s c n) (more : ended
   abbrev from : Cursor
   from = cursor_after beginning s (rooms so_far)
 
+  part_text : call_text c s (length out) ≡ call_text from s 32768
+  part_text = ap (λ (x : Cursor). call_text x s (length out)) t.behind ∙ ap (call_text from s) room
+
   -- the bytes counted are those of the parts, this one with them
   counted : length (joined beginning s (rooms (suc so_far))) ≡ n + count
   counted =
-      let part : call_text c s (length out) ≡ call_text from s 32768 = ap (λ (x : Cursor). call_text x s (length out)) t.behind ∙ ap (call_text from s) room in
-      omega (arith, ap length (joined_next so_far beginning s), length-append (joined beginning s (rooms so_far)) (call_text from s 32768), ap length t.follows.joins, length-take-le n (listing s) t.follows.no_more, ap length part, h.count_is)
+      omega (arith, ap length (joined_next so_far beginning s), length-append (joined beginning s (rooms so_far)) (call_text from s 32768), ap length t.follows.joins, length-take-le n (listing s) t.follows.no_more, ap length part_text, h.count_is)
+
+  -- the bytes counted are those before, and behind them this part's
+  counted_text : take (n + count) (listing s) ≡ take n (listing s) ++ call_text c s (length out)
+  unfolding joined_follows
+  counted_text =
+      sym (joined_follows s (suc so_far) (n + count) counted).joins ∙ joined_next so_far beginning s
+      ∙ ap (λ (x : List ℕ). x ++ call_text from s 32768) t.follows.joins ∙ ap (λ (x : List ℕ). take n (listing s) ++ x) (sym part_text)
+
+  -- so where the output has got those before, and then takes this part, it has got all that is counted
+  pub handing_arrives : (a b d : Option (List ℕ)) → Appends a b (take n (listing s)) → Appends b d (call_text c s (length out)) → Appends a d (take (n + count) (listing s))
+  handing_arrives a b d first then = subst (Appends a d) (sym counted_text) (Appends-trans a b d (take n (listing s)) (call_text c s (length out)) first then)
 
   pub handing_goes : Handing s next (n + count)
   unfolding joined_follows

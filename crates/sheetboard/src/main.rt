@@ -125,7 +125,10 @@ fn list_input<R: Read, W: Write>(input: &mut R, to: &mut W) -> Result<(), Failur
     let handed = list_read(to, read, &buf);
     match read {
         Input::Failed(cause) => Err(Failure::Reading(cause)),
-        Input::Bytes(_) => handed.taken.map_err(Failure::Writing),
+        Input::Bytes(_) => match handed.taken {
+            Ok(()) => Ok(()),
+            Err(cause) => Err(Failure::Writing(cause)),
+        },
     }
 }
 

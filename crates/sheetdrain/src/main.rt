@@ -79,7 +79,10 @@ fn tell_input<R: Read, W: Write>(input: &mut R, to: &mut W) -> Result<(), Failur
     let taken = tell_read(to, read, &buf);
     match read {
         Input::Failed(cause) => Err(Failure::Reading(cause)),
-        Input::Bytes(_) => taken.map_err(Failure::Writing),
+        Input::Bytes(_) => match taken {
+            Ok(()) => Ok(()),
+            Err(cause) => Err(Failure::Writing(cause)),
+        },
     }
 }
 
