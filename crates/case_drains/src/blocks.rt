@@ -7,6 +7,7 @@ use fields::end_from;
 const NEWLINE: u8 = 10;
 
 // The place behind the line at a place, or the text's end.
+#[tactic(auto, using(fields::proofs::PartLaws::end_after, fields::proofs::PartLaws::end_at_most))]
 fn behind(text: &[u8], at: usize) -> usize
     requires { at ≤ length text.now }
     ensures { (at ≤ result) × (result ≤ length text.now) × (at < length text.now → at < result) }

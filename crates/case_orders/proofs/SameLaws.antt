@@ -25,9 +25,9 @@ four (p ∷ q ∷ r ∷ s ∷ t ∷ l) h = absurd (omega arith)
 abbrev pub same_four : List ℕ → List ℕ → Bool
 same_four x y = eqb (get_or x 0 0) (get_or y 0 0) && (eqb (get_or x 1 0) (get_or y 1 0) && (eqb (get_or x 2 0) (get_or y 2 0) && (eqb (get_or x 3 0) (get_or y 3 0) && true)))
 
-pub same_four_lem : (x y : List ℕ) → length x ≡ 4 → length y ≡ 4 → same_list x y ≡ same_four x y
+pub same_by_four : (x y : List ℕ) → length x ≡ 4 → length y ≡ 4 → same_list x y ≡ same_four x y
 unfolding same_list
-same_four_lem x y h k = rw (four x h, four y k)
+same_by_four x y h k = rw (four x h, four y k)
 
 -- where the first three are equal, the last decides
 pub last_decides : (x y : List ℕ) → get_or x 0 0 ≡ get_or y 0 0 → get_or x 1 0 ≡ get_or y 1 0 → get_or x 2 0 ≡ get_or y 2 0 → eqb (get_or x 3 0) (get_or y 3 0) ≡ same_four x y

@@ -32,6 +32,7 @@ fn turn(to: &impl Print, b: Board, line: &[u8]) -> Board {
     built(b, line)
 }
 
+#[tactic(auto, using(fields::proofs::PartLaws::end_after, fields::proofs::PartLaws::end_at_most))]
 pub(crate) fn all(to: &impl Print, input: &[u8]) {
     let mut b = board::blank();
     let mut at = 0;

@@ -34,6 +34,7 @@ fn same_entries(a: Board, b: Board) -> bool
     true
 }
 
+#[tactic(auto, unfolding(crate::specs::Same::same_boards))]
 pub(crate) fn same_boards(a: Board, b: Board) -> bool
     ensures { result ≡ same_boards a b }
 {

@@ -75,7 +75,7 @@ fn assert_fails(output: Output, line: &str) {
     assert_eq!(
         output.status.code(),
         Some(0),
-        "the language has no exit status"
+        "a failure is told on standard error alone"
     );
 }
 

@@ -4,12 +4,11 @@ use mathlib.Core.List.{List, [], ◌∷◌, ◌++◌}
 use Prim.Native.Nat.{ℕ, suc, ◌+◌, ◌-◌, ◌≤◌, ◌<◌}
 use native.Mathlib.Numerals.{add-one}
 use native.Mathlib.Omega.{arith}
-use native.Mathlib.Decide.{ℕ_discrete}
-use lib.ListN.{length, get_or, set, take, drop, length-append, drop_of_length-le, get_or-append, get_or-eq_default}
+use lib.ListN.{length, get_or, set, take, drop, length-append, drop_of_length-le, get_or-append}
 use lib.Seq.{get_or-append-add, drop-cons, take-suc, take-suc-set}
 use Rattle.rules.specs.declared.StepRecord.{StepRecord}
 use Rattle.rules.specs.declared.Action.{Action}
-use Rattle.rules.specs.declared.Action.TheVariants.{Unknown, Start, Send, Request as RequestStep, Deliver, Rest, Tick, Release, Move}
+use Rattle.rules.specs.declared.Action.TheVariants.{Release}
 use Rattle.rules.proofs.SoundLaws.{below_or_not}
 use Rattle.census.specs.Choices.{seven_kinds, ranges, for_each, steps_in, choices}
 use Rattle.steps.specs.NoStep.{no_step}
@@ -21,14 +20,6 @@ ranges_at n m k = ranges n m (get_or seven_kinds k Release)
 
 pub at_place : (n m : ℕ) {i k : ℕ} → i ≡ k → ranges_at n m k ≡ ranges_at n m i
 at_place n m e = ap (λ (i : ℕ). ranges_at n m i) (sym e)
-
--- from the last one on
-pub last_place : (n m k : ℕ) → 6 ≤ k → ranges_at n m 6 ≡ ranges_at n m k
-last_place n m k l = ap (ranges n m) (by_place (ℕ_discrete k 6))
-  where
-    by_place : Dec (k ≡ 6) → Release ≡ get_or seven_kinds k Release
-    by_place (yes e) = rw e
-    by_place (no e) = let past : 7 ≤ k = omega (arith, l, e) in sym (get_or-eq_default seven_kinds Release past)
 
 -- ---- the walk past the kinds
 -- the choices from the kind at a place on
@@ -80,21 +71,6 @@ walk_goes {n} {m} {i} {k} {j} {c} w l {k'} {j'} {d} ek ej e = subst (λ (x : ℕ
 pub walk_ends : {n m i k j : ℕ} {c : StepRecord} → Walk n m i k j c → j < range_size c → get_or (steps_in c) j no_step ≡ get_or (choices n m) i no_step
 walk_ends {n} {m} {i} {k} {j} {c} w l =
     sym (w.same ∙ ap (λ (rs : List StepRecord). get_or rs j no_step) (split w) ∙ get_or-append (steps_in c) (choices_from n m (suc k)) no_step j (omega (arith, l, steps_in_length c)))
-
--- the ranges at a place, for the sizes that a census takes
-abbrev pub SmallRanges : StepRecord → Type 0
-SmallRanges c = (c.unit ≤ 3) × (c.other ≤ 3) × (c.slot ≤ 2)
-
-pub ranges_small : (n m : ℕ) → n ≤ 3 → m ≤ 2 → (a : Action) → SmallRanges (ranges n m a)
-ranges_small n m p q Unknown = omega arith
-ranges_small n m p q Start = omega arith
-ranges_small n m p q Send = omega arith
-ranges_small n m p q RequestStep = omega arith
-ranges_small n m p q Deliver = omega arith
-ranges_small n m p q Rest = omega arith
-ranges_small n m p q Tick = omega arith
-ranges_small n m p q Release = omega arith
-ranges_small n m p q Move = omega arith
 
 -- ---- all choices in a list: those stored so far are the first ones
 pub listed_more : (cs qs : List StepRecord) (i j : ℕ) (r : StepRecord) → i < length cs → i < length qs → j ≡ i → r ≡ get_or qs i no_step → take i cs ≡ take i qs → take (i + 1) (set cs j r) ≡ take (i + 1) qs

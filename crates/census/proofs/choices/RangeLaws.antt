@@ -1,8 +1,8 @@
 -- The steps in given ranges: how many there are, and each by its number.
 use mathlib.Core.Path.{◌≡◌, refl, sym, ap, ◌∙◌}
 use mathlib.Core.List.{List, [], ◌∷◌}
-use Prim.Native.Nat.{ℕ, zero, suc, ◌*◌, ◌/◌, ◌%◌, ◌≤◌, ◌<◌}
-use native.Mathlib.Nat.{mul-le-mul, mul-zero, mod-lt, mod-one, div-one, div-add-mod', div-lt_iff_lt-mul}
+use Prim.Native.Nat.{ℕ, zero, suc, ◌*◌, ◌/◌, ◌%◌, ◌<◌}
+use native.Mathlib.Nat.{mul-zero, mod-lt, mod-one, div-one, div-add-mod', div-lt_iff_lt-mul}
 use native.Mathlib.Omega.{arith}
 use lib.ListN.{length, get_or}
 use Rattle.rules.specs.declared.StepRecord.{StepRecord}
@@ -40,21 +40,17 @@ for_unit c u = for_each (numbers_from 0 c.other) (for_pair c u)
 pair_length : (c : StepRecord) (u v : ℕ) → length (for_pair c u v) ≡ c.slot
 pair_length c u v = numbered_length 1 c.slot _ (λ s. refl) ∙ omega arith
 
-unit_length_lem : (c : StepRecord) (u : ℕ) → length (for_unit c u) ≡ c.other * c.slot
-unit_length_lem c u = numbered_length c.slot c.other (for_pair c u) (pair_length c u)
+for_unit_length : (c : StepRecord) (u : ℕ) → length (for_unit c u) ≡ c.other * c.slot
+for_unit_length c u = numbered_length c.slot c.other (for_pair c u) (pair_length c u)
 
 slot_at : (c : StepRecord) (u v s : ℕ) → s < c.slot → get_or (for_pair c u v) s no_step ≡ record { kind = c.kind; unit = u; other = v; slot = s }
 slot_at c u v s l =
     numbered_at 1 c.slot _ (λ x. refl) s no_step (omega (arith, l))
     ∙ (λ k. get_or {A = StepRecord} (record { kind = c.kind; unit = u; other = v; slot = div-one s k } ∷ []) (mod-one s k) no_step)
 
--- ranges of the sizes that a census takes: few steps, so that nothing wraps
-pub pairs_most : (v s : ℕ) → v ≤ 3 → s ≤ 2 → v * s ≤ 6
-pairs_most v s p q = omega (arith, mul-le-mul p q)
-
 pub steps_in_length : (c : StepRecord) → length (steps_in c) ≡ range_size c
 unfolding steps_in
-steps_in_length c = numbered_length (c.other * c.slot) c.unit (for_unit c) (unit_length_lem c)
+steps_in_length c = numbered_length (c.other * c.slot) c.unit (for_unit c) (for_unit_length c)
 
 -- the step by its number: the slot counts up first, then the other unit, then the unit
 pub step_in_at :
@@ -66,6 +62,6 @@ step_in_at c i l =
     let pairs : ℕ = c.other * c.slot in
     let pair-within : i % pairs < c.other * c.slot = mod-lt i (factor_above i c.unit pairs l) in
     let slot-within : i % pairs % c.slot < c.slot = mod-lt (i % pairs) (factor_above (i % pairs) c.other c.slot pair-within) in
-    numbered_at pairs c.unit (for_unit c) (unit_length_lem c) i no_step l
+    numbered_at pairs c.unit (for_unit c) (for_unit_length c) i no_step l
     ∙ numbered_at c.slot c.other (for_pair c (i / pairs)) (pair_length c (i / pairs)) (i % pairs) no_step pair-within
     ∙ slot_at c (i / pairs) (i % pairs / c.slot) (i % pairs % c.slot) slot-within

@@ -1,7 +1,7 @@
 -- Depth on a sound board: a unit is one deeper than its parent, and none is deeper than the greatest depth.
 use mathlib.Core.Path.{◌≡◌, refl, sym, ap, ◌∙◌}
 use mathlib.Core.List.{List}
-use Prim.Native.Nat.{ℕ, zero, suc, ◌≤◌, ◌<◌, zero-le, suc-le-suc}
+use Prim.Native.Nat.{ℕ, zero, suc, ◌-◌, ◌≤◌, ◌<◌, zero-le, suc-le-suc}
 use native.Mathlib.Nat.{not-suc-le-zero, le_refl, le-max_left, le-max_right, le_trans}
 use native.Mathlib.Omega.{arith}
 use lib.ListN.{get_or}
@@ -58,3 +58,7 @@ depth_at_most ps (suc n) i l =
 -- ---- on a sound board
 pub deeper_than_parent : (b : Sheet) → Sound b → (u : ℕ) → 1 ≤ u → u < b.n → depth b.parents u ≡ suc (depth b.parents (parent_at b u))
 deeper_than_parent b h u p l = depth_parent b.parents u p (λ i q r. parent_below b h i q (omega arith))
+
+-- the depth of a unit's parent is one less than its own
+pub one_above : (b : Sheet) → Sound b → (u : ℕ) → 1 ≤ u → u < b.n → depth b.parents u - 1 ≡ depth b.parents (parent_at b u)
+one_above b h u p l = omega (arith, deeper_than_parent b h u p l)

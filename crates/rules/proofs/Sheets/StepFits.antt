@@ -104,6 +104,9 @@ module _ (b : Sheet) (r : StepRecord) (h : Sound b) where
         debt_fits = debt_ceiling;
       }
 
+  move_fits : AcceptedAs b r Move → FitsEffect b r.unit 0 (done_on b r Move)
+  move_fits c = (shown 13 c, first_slot, lower_fits r.unit r.other (shown 47 c))
+
   -- ---- deliver, by the kind of the message
   module _ (c : AcceptedAs b r Deliver) where
     abbrev y : Slot
@@ -204,7 +207,7 @@ module _ (b : Sheet) (r : StepRecord) (h : Sound b) where
   step_fits Rest c = rest_fits c
   step_fits Tick c = tick_fits c
   step_fits Release c = release_fits c
-  step_fits Move c = (shown 13 c, first_slot, lower_fits r.unit r.other (shown 47 c))
+  step_fits Move c = move_fits c
 
   -- ---- its counts fit: what it creates is processed or under way behind it, and no created count passes its most
   -- what the action creates and the work that was in the slot are what it processes and the work that is there then
