@@ -1,19 +1,13 @@
--- A reading by its two variants, bytes or a failure; one read behind what was read before; and what the bytes read say of the whole input.
+-- One read behind what was read before; and what the bytes read say of the whole input.
 use Rattle.std.proofs.Common.{◌≡◌, ◌∙◌, sym, ap, subst, ℕ, ◌+◌, ◌-◌, ◌<◌, ◌≤◌, None, Some, IfSome, List, ◌++◌, append-nil, length, take, drop, arith}
 use Rattle.std.proofs.Math.Logic.{⊎_elim}
 use Rattle.std.proofs.Math.Nat.{eq-or-lt_of_le}
-use Rattle.std.proofs.Math.Seq.{length-take-le}
-use Rattle.std.proofs.Math.Seq.{take-add}
+use Rattle.std.proofs.Math.Seq.{length-take-le, take-add}
 use Rattle.std.proofs.KnownBytes.{Consumes-trans}
 use Rattle.std.specs.Io.KnownBytes.{Consumes}
 use Rattle.std.specs.declared.option.Option.{Option}
-use Rattle.reading.specs.Input.{ReadBetween, Gives}
-use Rattle.reading.specs.declared.Input.{Input}
+use Rattle.reading.specs.Input.{Gives}
 use Rattle.reading.specs.declared.Input.TheVariants.{Bytes}
-
--- the bounds of a reading that gave bytes
-pub bytes_within : {least most n : ℕ} {r : Input} → ReadBetween least most r → r ≡ Bytes n → (least ≤ n) × (n ≤ most)
-bytes_within {least} {most} w e = subst (λ (x : Input). ReadBetween least most x) e w
 
 -- the bytes read before, which the read kept, and those that it gave behind them are the first that the reader had left
 pub reads_on : (a b c : Option (List ℕ)) (at n : ℕ) (old new : List ℕ) → at ≤ n → take at new ≡ take at old → Consumes a b (take at old) → Consumes b c (take (n - at) (drop at new)) → Consumes a c (take n new)

@@ -1,10 +1,11 @@
--- A line's three parts stored one behind the other, and how long a line can be.
-use mathlib.Core.Path.{◌≡◌, sym, ap, subst, ◌∙◌}
+-- A line's three parts stored one behind the other, how long a line can be, and where it stands.
+use mathlib.Core.Path.{◌≡◌, refl, ap, ◌∙◌}
 use mathlib.Core.List.{List, [], ◌∷◌, ◌++◌, append_assoc}
-use Prim.Native.Nat.{ℕ, ◌+◌, ◌≤◌}
+use Prim.Native.Nat.{ℕ, ◌+◌, ◌-◌, ◌≤◌}
+use native.Mathlib.Nat.{sub-zero}
 use native.Mathlib.Omega.{arith}
-use lib.ListN.{length, length-append}
-use lib.Seq.{sets}
+use lib.ListN.{length, take, drop, length-append}
+use lib.Seq.{sets, sets-eq, take_at}
 use Rattle.placing.specs.Placing.{written}
 use Rattle.placing.proofs.WriteLaws.{written_fits}
 use Rattle.decimal.specs.Spelling.{spelled, digit_count}
@@ -34,6 +35,9 @@ pub told_line_most : (told : Longest) → length (line_of told) ≤ 44
 told_line_most (Steps n) = omega (arith, between_length at_most_text n steps_more_text, count_most n)
 told_line_most (Refused k) = omega (arith, between_length refused_by_text k (10 ∷ []), count_most k)
 
--- the line of an answer is that of the variant that it is
-pub line_told : {told is : Longest} (line : List ℕ) {left : List ℕ} {r : ℕ} → told ≡ is → Puts (line_of is) line r left → Puts (line_of told) line r left
-line_told line {left = left} {r = r} e p = subst (λ (x : Longest). Puts (line_of x) line r left) (sym e) p
+-- what is handed over of a line that fits, the buffer from byte 0 up to byte `r`, is the line
+pub line_handed : (text line left : List ℕ) (r : ℕ) → length text ≤ length line → Puts text line r left → take (r - 0) left ≡ text
+line_handed text line left r l p =
+    let starts : take (length text) (sets line 0 text) ≡ text =
+    rw (sets-eq text line 0 (omega (arith, l))) (take_at text (drop (0 + length text) line) (length text) refl) in
+    ap (λ (k : ℕ). take k left) (sub-zero r ∙ p.0) ∙ ap (take (length text)) p.1 ∙ starts
