@@ -133,16 +133,21 @@ fn list_input<R: Read, W: Write>(input: &mut R, to: &mut W) -> Result<(), Failur
     }
 }
 
+// Tells what failed and why, in a line: the cause in words and without its number, unless there is no room to cut it.
+fn tell(rt: &HostRuntime, failed: &str, cause: io::Error) -> io::Result<()> {
+    let Ok(text) = format!(in rt.alloc(); "{cause}") else {
+        return eprintln!(rt; "sheetboard: {failed}: {cause}");
+    };
+    let words = text.as_str().split(" (os error ").next().unwrap_or("");
+    eprintln!(rt; "sheetboard: {failed}: {words}")
+}
+
 fn main(rt: HostRuntime) {
     let listed = list_input(&mut rt.stdin(), &mut io::writer(&rt));
     let told = match listed {
         Ok(()) => Ok(()),
-        Err(Failure::Reading(cause)) => {
-            eprintln!(rt; "sheetboard: reading standard input: {cause}")
-        }
-        Err(Failure::Writing(cause)) => {
-            eprintln!(rt; "sheetboard: writing standard output: {cause}")
-        }
+        Err(Failure::Reading(cause)) => tell(&rt, "reading standard input", cause),
+        Err(Failure::Writing(cause)) => tell(&rt, "writing standard output", cause),
     };
     // Where that line cannot be written either, there is nobody left to tell.
     let _ = told;

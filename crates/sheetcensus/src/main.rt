@@ -36,8 +36,18 @@ fn table(to: &impl Print) -> io::Result<()> {
     Ok(())
 }
 
+// Tells that the output takes no more, and why, in a line: the cause in words and without its number, unless there is no room to cut it.
+fn tell(rt: &HostRuntime, cause: io::Error) -> io::Result<()> {
+    let Ok(text) = format!(in rt.alloc(); "{cause}") else {
+        return eprintln!(rt; "sheetcensus: writing standard output: {cause}");
+    };
+    let words = text.as_str().split(" (os error ").next().unwrap_or("");
+    eprintln!(rt; "sheetcensus: writing standard output: {words}")
+}
+
 fn main(rt: HostRuntime) {
     if let Err(cause) = table(&rt) {
-        let _ = eprintln!(rt; "sheetcensus: writing standard output: {cause}");
+        // Where that line cannot be written either, there is nobody left to tell.
+        let _ = tell(&rt, cause);
     }
 }
