@@ -134,7 +134,7 @@ fn list_input<R: Read, W: Write>(input: &mut R, to: &mut W) -> Result<(), Failur
 }
 
 // Tells what failed and why, in a line: the cause in words and without its number, unless there is no room to cut it.
-fn tell(rt: &HostRuntime, failed: &str, cause: io::Error) -> io::Result<()> {
+fn tell_failure(rt: &HostRuntime, failed: &str, cause: io::Error) -> io::Result<()> {
     let Ok(text) = format!(in rt.alloc(); "{cause}") else {
         return eprintln!(rt; "sheetboard: {failed}: {cause}");
     };
@@ -146,8 +146,8 @@ fn main(rt: HostRuntime) {
     let listed = list_input(&mut rt.stdin(), &mut io::writer(&rt));
     let told = match listed {
         Ok(()) => Ok(()),
-        Err(Failure::Reading(cause)) => tell(&rt, "reading standard input", cause),
-        Err(Failure::Writing(cause)) => tell(&rt, "writing standard output", cause),
+        Err(Failure::Reading(cause)) => tell_failure(&rt, "reading standard input", cause),
+        Err(Failure::Writing(cause)) => tell_failure(&rt, "writing standard output", cause),
     };
     // Where that line cannot be written either, there is nobody left to tell.
     let _ = told;

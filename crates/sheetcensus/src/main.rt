@@ -37,7 +37,7 @@ fn table(to: &impl Print) -> io::Result<()> {
 }
 
 // Tells that the output takes no more, and why, in a line: the cause in words and without its number, unless there is no room to cut it.
-fn tell(rt: &HostRuntime, cause: io::Error) -> io::Result<()> {
+fn tell_failure(rt: &HostRuntime, cause: io::Error) -> io::Result<()> {
     let Ok(text) = format!(in rt.alloc(); "{cause}") else {
         return eprintln!(rt; "sheetcensus: writing standard output: {cause}");
     };
@@ -48,6 +48,6 @@ fn tell(rt: &HostRuntime, cause: io::Error) -> io::Result<()> {
 fn main(rt: HostRuntime) {
     if let Err(cause) = table(&rt) {
         // Where that line cannot be written either, there is nobody left to tell.
-        let _ = tell(&rt, cause);
+        let _ = tell_failure(&rt, cause);
     }
 }

@@ -86,16 +86,21 @@ fn tell_input<R: Read, W: Write>(input: &mut R, to: &mut W) -> Result<(), Failur
     }
 }
 
+// Tells what failed and why, in a line: the cause in words and without its number, unless there is no room to cut it.
+fn tell_failure(rt: &HostRuntime, failed: &str, cause: io::Error) -> io::Result<()> {
+    let Ok(text) = format!(in rt.alloc(); "{cause}") else {
+        return eprintln!(rt; "sheetdrain: {failed}: {cause}");
+    };
+    let words = text.as_str().split(" (os error ").next().unwrap_or("");
+    eprintln!(rt; "sheetdrain: {failed}: {words}")
+}
+
 fn main(rt: HostRuntime) {
     let told = tell_input(&mut rt.stdin(), &mut io::writer(&rt));
     let line = match told {
         Ok(()) => Ok(()),
-        Err(Failure::Reading(cause)) => {
-            eprintln!(rt; "sheetdrain: reading standard input: {cause}")
-        }
-        Err(Failure::Writing(cause)) => {
-            eprintln!(rt; "sheetdrain: writing standard output: {cause}")
-        }
+        Err(Failure::Reading(cause)) => tell_failure(&rt, "reading standard input", cause),
+        Err(Failure::Writing(cause)) => tell_failure(&rt, "writing standard output", cause),
     };
     // Where that line cannot be written either, there is nobody left to tell.
     let _ = line;
