@@ -4,6 +4,8 @@ use mathlib.Core.Bool.{cond}
 use mathlib.Core.List.{List}
 use Prim.Native.Nat.{ℕ, ◌<◌}
 use native.Mathlib.Omega.{arith}
+use Rattle.refusals.specs.Numbers.{number_of}
+use Rattle.refusals.specs.declared.Refusal.TheVariants.{NotSound}
 use Rattle.rules.specs.Facts.{Check, judge}
 use Rattle.rules.specs.Sound.{sound}
 use Rattle.rules.specs.Actions.{action_of}
@@ -18,12 +20,11 @@ use Rattle.rules.proofs.JudgeLaws.{Numbered, Judged, passed, failed, judged}
 use Rattle.rules.proofs.Sheets.SoundLaws.{root_or_other}
 use Rattle.rules.proofs.Sheets.Accepted.{place_numbered, record_numbered}
 use Rattle.rules.specs.Records.{Kind, Empty, Work, Return, Request, Supply, Action, Unknown, Start, Send, RequestStep, Deliver, Rest, Tick, Release, Move, Effect, UnitRecord, Slot, Board, StepRecord}
-use Rattle.rules.specs.declared.Effect.TheVariants.{Refused}
 
 -- of an effect, wherever it is applied
 module _ (b : Sheet) (a : Action) (u s : ℕ) where
   abbrev Short : Effect → Type 0
-  Short e = (applied b a u s e).answer < 100
+  Short e = number_of (applied b a u s e).answer < 100
 
   delivered_short : (debt d : ℕ) (x : UnitRecord) (y : Slot) (k : Kind) → Short (deliver_effect debt d x y k)
   unfolding applied
@@ -45,15 +46,15 @@ module _ (b : Sheet) (a : Action) (u s : ℕ) where
   done_short debt d r x p y Release = omega arith
   done_short debt d r x p y Move = omega arith
 
-  judged_short : (cs : List Check) (e : Effect) → Numbered cs → Short e → Short (judge Refused cs e)
+  judged_short : (cs : List Check) (e : Effect) → Numbered cs → Short e → Short (judge Err cs e)
   unfolding applied
-  judged_short cs e n p = by_judgement (judged Refused cs e n)
+  judged_short cs e n p = by_judgement (judged Err cs e n)
     where
-      by_judgement : Judged Refused cs e → Short (judge Refused cs e)
-      by_judgement (passed c) = subst Short (sym (judge_passed Refused cs e c)) p
+      by_judgement : Judged Err cs e → Short (judge Err cs e)
+      by_judgement (passed c) = subst Short (sym (judge_passed Err cs e c)) p
       by_judgement (failed k l q) = subst Short (sym q) l.1
 
-step_short : (b : Sheet) (r : StepRecord) → (sheet_sound_step b r).answer < 100
+step_short : (b : Sheet) (r : StepRecord) → number_of (sheet_sound_step b r).answer < 100
 unfolding sheet_sound_step effect record_rule
 step_short b r =
     let a : Action = action_of r.kind in
@@ -62,6 +63,6 @@ step_short b r =
     judged_short b a u s (places_on b r a) _ (place_numbered b.n b.m r a)
     (judged_short b a u s (checks_on b r a) _ (record_numbered b.debt (unit_at b u) (slot_at b s) (made_at b u) a) (done_short b a u s b.debt b.delay r (unit_at b u) _ (slot_at b s) a))
 
-pub answer_short : (b : Board) (r : StepRecord) → (step b r).answer < 100
+pub answer_short : (b : Board) (r : StepRecord) → number_of (step b r).answer < 100
 unfolding step sound_step
-answer_short b r = by_test (λ t. (cond t (sound_step b r) (record { answer = 30; board = b })).answer < 100) (sound b) (λ e. step_short (view b) r) (λ e. omega arith)
+answer_short b r = by_test (λ t. number_of (cond t (sound_step b r) (record { answer = Err NotSound; board = b })).answer < 100) (sound b) (λ e. step_short (view b) r) (λ e. omega arith)

@@ -3,6 +3,7 @@ use mathlib.Core.Path.{◌≡◌, refl, sym, ap, ◌∙◌}
 use mathlib.Core.Bool.{Bool}
 use mathlib.Core.List.{List, [], ◌∷◌, ◌++◌}
 use Prim.Native.Nat.{ℕ}
+use Rattle.refusals.specs.Numbers.{number_of}
 use Rattle.rules.specs.Actions.{action_of}
 use Rattle.rules.specs.Events.{Events, after_all, all_answers}
 use Rattle.rules.specs.Boards.{view, board_of}
@@ -40,7 +41,7 @@ abbrev CalmStep : Board → StepRecord → Type 0
 CalmStep b r = Calm steps ground_on entry_on touches b r
 
 -- the rounds that a step leaves
-rounds_shown : (b : Board) (r : StepRecord) → Sound b → (step b r).board.rounds ≡ rounds_kept (sheet_step (view b) r).answer (action_of r.kind) b.rounds
+rounds_shown : (b : Board) (r : StepRecord) → Sound b → (step b r).board.rounds ≡ rounds_kept (number_of (sheet_step (view b) r).answer) (action_of r.kind) b.rounds
 rounds_shown b r h = ap (λ (o : Outcome). o.board.rounds) (step_shown b r h)
 
 -- a step does on a board what it does on one that is the same where it touches: by their sheets, and both drop the rounds or neither
@@ -53,13 +54,13 @@ step_follows b c r h k calm same = record {
       ∙ sym (ap (λ (x : Sheet). entry_at x p) (step_view b r h));
 }
   where
-    z : (sheet_step (view b) r).answer ≡ 0
+    z : number_of (sheet_step (view b) r).answer ≡ 0
     z = sym (answer_shown b r h) ∙ calm.0
 
     ground : ground_of (view c) ≡ ground_of (view b)
     ground = ap (λ (g : BoardGround). g.sheet) same.grounds
 
-    there : (sheet_step (view c) r).answer ≡ 0
+    there : number_of (sheet_step (view c) r).answer ≡ 0
     there = of-sheets.repeats_accepted (view b) r h.sheet z (view c) k.sheet ground same.entries
 
     sheets : ground_of (view (step c r).board) ≡ ground_of (view (step b r).board)
@@ -81,14 +82,14 @@ calm_step b r kept = (
   kept.accepted,
   λ i. record {
     sheet = (ap ground_of (step_view b r h) ∙ of-sheets.ground_left (view b) r h.sheet z d) i;
-    rounds = (rounds_shown b r h ∙ other_leaves r (sheet_step (view b) r).answer b.rounds (of-sheets.no_start (view b) r h.sheet z d)) i;
+    rounds = (rounds_shown b r h ∙ other_leaves r (number_of (sheet_step (view b) r).answer) b.rounds (of-sheets.no_start (view b) r h.sheet z d)) i;
   },
 )
   where
     h : Sound b
     h = accepted_sound b r kept.accepted
 
-    z : (sheet_step (view b) r).answer ≡ 0
+    z : number_of (sheet_step (view b) r).answer ≡ 0
     z = sym (answer_shown b r h) ∙ kept.accepted
 
     d : (sheet_step (view b) r).sheet.debt ≡ b.debt
@@ -118,7 +119,7 @@ moves_touch_unit b r m = ap (touched_by (view b) r) m
 
 -- ---- lists of events, of which steps are some
 module _ {E : Type 0} (ev : Events Board E) (taken : StepRecord → E) (next_is : (b : Board) (r : StepRecord) → ev.next b (taken r) ≡ (step b r).board)
-    (answer_is : (b : Board) (r : StepRecord) → ev.answer b (taken r) ≡ (step b r).answer) where
+    (answer_is : (b : Board) (r : StepRecord) → ev.answer b (taken r) ≡ number_of (step b r).answer) where
   -- two steps at the head of a list: the board that they leave, and their answers
   two_after : (b : Board) (q r : StepRecord) → ev.next (ev.next b (taken q)) (taken r) ≡ (step (step b q).board r).board
   two_after b q r = ap (λ (c : Board). ev.next c (taken r)) (next_is b q) ∙ next_is (step b q).board r

@@ -7,6 +7,7 @@ use native.Mathlib.Nat.{le_of_suc-le-suc, not-suc-le-zero}
 use native.Mathlib.Omega.{arith}
 use lib.Dec.{eqb}
 use borrow.Author.Tests.{eq-eqb, leb-true, leb-false, not-true}
+use Rattle.refusals.specs.Numbers.{number_of}
 use Rattle.rules.specs.Facts.{Fact, test, Check, check, judge}
 use Rattle.rules.specs.Sound.{sound}
 use Rattle.rules.specs.Actions.{action_of}
@@ -23,7 +24,6 @@ use Rattle.rules.proofs.Views.{rounds_stay}
 use Rattle.rules.proofs.Sheets.Accepted.{place_numbered, record_numbered}
 use Rattle.rules.proofs.Sheets.Changes.{judged_applied}
 use Rattle.rules.specs.Records.{Action, Send, Board, StepRecord, Outcome}
-use Rattle.rules.specs.declared.Effect.TheVariants.{Refused}
 
 -- ---- of any row
 -- checks 0 and 1 fail, so check 0 does
@@ -88,7 +88,7 @@ before_holds j k (check f n ∷ cs) e l = by_tests (eqb n k) (eqb n j) (test f) 
 
 -- ---- a step is judged by its whole bracket
 abbrev refused_on : Board → ℕ → Outcome
-refused_on b k = record { answer = k; board = b }
+refused_on b k = record { answer = Err k; board = b }
 
 abbrev sheet_does : Sheet → StepRecord → Action → SheetOutcome
 sheet_does b r a = applied b a (unit_of b r a) (slot_of r a) (done_on b r a)
@@ -101,11 +101,11 @@ abbrev row_on : Sheet → StepRecord → Action → List Check
 row_on b r a = places_on b r a ++ checks_on b r a
 
 -- of its sheet
-sheet_bracket : (b : Sheet) (r : StepRecord) (a : Action) → action_of r.kind ≡ a → sheet_sound_step b r ≡ judge (λ k. record { answer = k; sheet = b }) (row_on b r a) (sheet_does b r a)
+sheet_bracket : (b : Sheet) (r : StepRecord) (a : Action) → action_of r.kind ≡ a → sheet_sound_step b r ≡ judge (λ k. record { answer = Err k; sheet = b }) (row_on b r a) (sheet_does b r a)
 unfolding sheet_sound_step effect record_rule
 sheet_bracket b r a named =
     ap (λ (c : Action). applied b c (unit_of b r c) (slot_of r c) (effect_by b r c)) named
-    ∙ ap (applied b a (unit_of b r a) (slot_of r a)) (sym (judge_append Refused (places_on b r a) (checks_on b r a) (done_on b r a)))
+    ∙ ap (applied b a (unit_of b r a) (slot_of r a)) (sym (judge_append Err (places_on b r a) (checks_on b r a) (done_on b r a)))
     ∙ judged_applied b a (unit_of b r a) (slot_of r a) (row_on b r a) (done_on b r a)
 
 bracket_numbered : (b : Sheet) (r : StepRecord) (a : Action) → Numbered (row_on b r a)
@@ -116,14 +116,14 @@ step_bracket : (b : Board) (r : StepRecord) (a : Action) → action_of r.kind �
 unfolding step sound_step
 step_bracket b r a named = ap (λ (o : Outcome). cond (sound b) o (refused_on b 30)) (by_sheet ∙ refusals)
   where
-    by_sheet : sound_step b r ≡ judge (λ k. on_board b.rounds a (record { answer = k; sheet = view b })) (row_on (view b) r a) (does b r a)
+    by_sheet : sound_step b r ≡ judge (λ k. on_board b.rounds a (record { answer = Err k; sheet = view b })) (row_on (view b) r a) (does b r a)
     by_sheet =
         ap (λ (c : Action). on_board b.rounds c (sheet_sound_step (view b) r)) named ∙ ap (on_board b.rounds a) (sheet_bracket (view b) r a named)
-        ∙ judge_map (on_board b.rounds a) (λ k. record { answer = k; sheet = view b }) (row_on (view b) r a) (sheet_does (view b) r a)
+        ∙ judge_map (on_board b.rounds a) (λ k. record { answer = Err k; sheet = view b }) (row_on (view b) r a) (sheet_does (view b) r a)
 
     -- a refusal keeps the rounds
-    refusals : judge (λ k. on_board b.rounds a (record { answer = k; sheet = view b })) (row_on (view b) r a) (does b r a) ≡ judge (refused_on b) (row_on (view b) r a) (does b r a)
-    refusals = judge_refused _ (refused_on b) (row_on (view b) r a) (does b r a) (bracket_numbered (view b) r a) (λ k l i. record { answer = k; board = board_of (view b) (rounds_stay k a b.rounds (λ e. omega (arith, l, e)) i) })
+    refusals : judge (λ k. on_board b.rounds a (record { answer = Err k; sheet = view b })) (row_on (view b) r a) (does b r a) ≡ judge (refused_on b) (row_on (view b) r a) (does b r a)
+    refusals = judge_refused _ (refused_on b) (row_on (view b) r a) (does b r a) (bracket_numbered (view b) r a) (λ k l i. record { answer = Err k; board = board_of (view b) (rounds_stay k a b.rounds (λ e. omega (arith, l, e)) i) })
 
 -- ---- a send
 module _ (b : Board) (r : StepRecord) (named : action_of r.kind ≡ Send) where
@@ -136,22 +136,22 @@ module _ (b : Board) (r : StepRecord) (named : action_of r.kind ≡ Send) where
   abbrev exchange : Exchanged (refused_on b) cs (does b r Send) (place_by 33 cs)
   exchange = rows_exchanged Outcome (refused_on b) cs (does b r Send) (place_by 33 cs)
 
-  answer_number : (step_under cs b r Send).answer ≡ refusal_number cs
+  answer_number : number_of (step_under cs b r Send).answer ≡ refusal_number cs
   unfolding applied
-  answer_number = judge_map (λ (o : Outcome). o.answer) (refused_on b) cs (does b r Send)
+  answer_number = judge_map (λ (o : Outcome). number_of o.answer) (refused_on b) cs (does b r Send)
 
-  by_both : (t : Bool) → both_fail (place_by 33 cs) cs ≡ t → AnswersNow b r (send_as_before b r).answer × ((step b r).board ≡ (send_as_before b r).board)
+  by_both : (t : Bool) → both_fail (place_by 33 cs) cs ≡ t → AnswersNow b r (number_of (send_as_before b r).answer) × ((step b r).board ≡ (send_as_before b r).board)
   by_both true e =
       let now : step b r ≡ refused_on b 33 = step_bracket b r Send named ∙ exchange.first e in
       let before : send_as_before b r ≡ refused_on b 34 = exchange.second e in (
-        becomes33 (ap (λ (o : Outcome). o.answer) before) (leb-false 2 weight (both_first 33 cs e)) (ap (λ (o : Outcome). o.answer) now),
+        becomes33 (ap (λ (o : Outcome). number_of o.answer) before) (leb-false 2 weight (both_first 33 cs e)) (ap (λ (o : Outcome). number_of o.answer) now),
         ap (λ (o : Outcome). o.board) now ∙ sym (ap (λ (o : Outcome). o.board) before),
       )
   by_both false e =
       let same : send_as_before b r ≡ step_under cs b r Send = exchange.others e in
       let now : step b r ≡ send_as_before b r = step_bracket b r Send named ∙ sym same in (
         -- a send that 34 refuses has passed 33
-        stays (λ q l. omega (arith, leb-true 2 weight (before_holds 33 34 cs (sym (ap (λ (o : Outcome). o.answer) same ∙ answer_number) ∙ q) (omega arith)), l)) (ap (λ (o : Outcome). o.answer) now),
+        stays (λ q l. omega (arith, leb-true 2 weight (before_holds 33 34 cs (sym (ap (λ (o : Outcome). number_of o.answer) same ∙ answer_number) ∙ q) (omega arith)), l)) (ap (λ (o : Outcome). number_of o.answer) now),
         ap (λ (o : Outcome). o.board) now,
       )
 

@@ -4,6 +4,7 @@ use mathlib.Core.Bool.{true, cond}
 use mathlib.Core.Logic.{◌↔◌}
 use Prim.Native.Nat.{ℕ}
 use native.Mathlib.Omega.{arith}
+use Rattle.refusals.specs.declared.Refusal.TheVariants.{NotSound}
 use Rattle.rules.specs.Boards.{view}
 use Rattle.rules.specs.Sound.{Sound, sound}
 use Rattle.rules.specs.Finished.{verdict, Complete}
@@ -12,7 +13,6 @@ use Rattle.rules.proofs.FactLaws.{by_test}
 use Rattle.rules.proofs.SoundLaws.{sound_claims, sound_tested}
 use Rattle.rules.proofs.Sheets.FinishedLaws as of-sheets
 use Rattle.rules.specs.Records.{Board, Finished}
-use Rattle.rules.specs.declared.Verdict.TheVariants.{Refused}
 
 -- the verdict on a sound board is told from the debt, as that on its sheet
 pub verdict_sound : (b : Board) → Sound b → verdict b ≡ told_from b.debt
@@ -32,7 +32,7 @@ finished_complete b h =
 pub finished_sound : (b : Board) → verdict b ≡ Finished → Sound b
 unfolding verdict
 finished_sound b e =
-    by_test (λ t. cond t (told_from b.debt) (Refused 30) ≡ Finished → Sound b) (sound b) (λ s q. sound_claims b s) (λ s q. absurd (let o : ◌≡◌ {A = ℕ} 0 1 = cc in omega arith)) e
+    by_test (λ t. cond t (told_from b.debt) (Err NotSound) ≡ Finished → Sound b) (sound b) (λ s q. sound_claims b s) (λ s q. absurd (let o : ◌≡◌ {A = ℕ} 0 1 = cc in omega arith)) e
 
 pub finished_tells : (b : Board) → (verdict b ≡ Finished → Complete b) × (sound b ≡ true → Complete b → verdict b ≡ Finished)
 finished_tells b = (λ e. (finished_complete b (finished_sound b e)).0 e, λ s c. (finished_complete b (sound_claims b s)).1 c)

@@ -7,6 +7,7 @@ use native.Mathlib.Omega.{arith}
 use lib.ListN.{length, get_or}
 use lib.Dec.{eqb}
 use lib.Seq.{append_snoc}
+use Rattle.refusals.specs.Numbers.{number_of}
 use Rattle.rules.specs.Facts.{one_if, Claims}
 use Rattle.rules.specs.Records.{is_active, is_work, blank_slot, Start, Rounds, Board, StepRecord, Finding, AllQuiet, Unsettled, Outcome, Visited}
 use Rattle.rules.specs.Actions.{action_of, is_action}
@@ -87,26 +88,26 @@ fair b h = record {
 }
 
 -- ---- what an event on a sound board does
-module _ (b : Board) (r : StepRecord) (h : Sound b) (z : (step b r).answer ≡ 0) where
-  sheet_zero : (sheet_step (view b) r).answer ≡ 0
+module _ (b : Board) (r : StepRecord) (h : Sound b) (z : number_of (step b r).answer ≡ 0) where
+  sheet_zero : number_of (sheet_step (view b) r).answer ≡ 0
   sheet_zero = sym (answer_shown b r h) ∙ z
 
   taken : Happened b (takes r) (step b r).board
   taken =
       true_or_not (is_action Start (action_of r.kind))
-      (λ e. rounding.started z (ap one_if e) (kept _ (start_drops r (sheet_step (view b) r).answer b.rounds sheet_zero e)))
+      (λ e. rounding.started z (ap one_if e) (kept _ (start_drops r (number_of (sheet_step (view b) r).answer) b.rounds sheet_zero e)))
       (λ e.
       let m : Advances (view b) (view (step b r).board) = subst (Advances (view b)) (sym (step_view b r h)) (step_advances (view b) r h.sheet sheet_zero (ap one_if e)) in
       rounding.stepped (record {
         same_units = m.same_units;
-        same_rounds = kept _ (other_leaves r (sheet_step (view b) r).answer b.rounds e);
+        same_rounds = kept _ (other_leaves r (number_of (sheet_step (view b) r).answer) b.rounds e);
         created_grows = m.created_grows;
         processed_grows = m.processed_grows;
         woken = m.woken;
         by_active = m.by_active;
       }))
     where
-      kept : (k : Rounds) → rounds_kept (sheet_step (view b) r).answer (action_of r.kind) b.rounds ≡ k → (step b r).board.rounds ≡ k
+      kept : (k : Rounds) → rounds_kept (number_of (sheet_step (view b) r).answer) (action_of r.kind) b.rounds ≡ k → (step b r).board.rounds ≡ k
       kept k e = ap (λ (o : Outcome). o.board.rounds) (step_shown b r h) ∙ e
 
 happens : (b : Board) (e : Event) → Sound b → Happened b e (next_by b e)

@@ -7,6 +7,7 @@ use Prim.Native.Nat.{ℕ, ◌+◌, ◌<◌}
 use native.Mathlib.Omega.{arith}
 use lib.ListN.{length, get_or, set}
 use lib.Seq.{get_or-set_same, set-get_or}
+use Rattle.refusals.specs.Numbers.{number_of}
 use Rattle.rules.specs.Records.{is_active, is_empty, is_request, blank_unit, blank_slot, Kind, Empty, Work, Return, Request, Supply, Action, Unknown, Start, Send, RequestStep, Deliver, Rest, Tick, Release, Move, Effect, UnitRecord, Slot, StepRecord}
 use Rattle.rules.specs.Sheets.Sheet.{parent_at, unit_at, slot_at, Sheet, Outcome}
 use Rattle.rules.specs.Sheets.Sound.{Sound}
@@ -76,7 +77,7 @@ module _ (b : Sheet) (r : StepRecord) (h : Sound b) where
   changes Release c e = absurd (fills r.slot _ (shown 14 c) (shown 34 c) refl (ap (λ (d : Sheet). d.slots) e))
   changes Move c e = (refl, entry_stays b.parents r.unit r.other 0 (omega (arith, h.s1_sizes, shown 13 c)) (ap (λ (d : Sheet). d.parents) e))
 
-pub accepted_changes : (b : Sheet) (r : StepRecord) → (step b r).answer ≡ 0 → (step b r).sheet ≡ b → (action_of r.kind ≡ Move) × (r.other ≡ parent_at b r.unit)
+pub accepted_changes : (b : Sheet) (r : StepRecord) → number_of (step b r).answer ≡ 0 → (step b r).sheet ≡ b → (action_of r.kind ≡ Move) × (r.other ≡ parent_at b r.unit)
 accepted_changes b r z e =
     let h : Sound b = accepted_sound b r z in
     let c = accepted_as b r h (action_of r.kind) refl z in

@@ -16,7 +16,6 @@ use Rattle.rules.proofs.FactLaws.{each_of, each_set}
 use Rattle.rules.proofs.JudgeLaws.{judge_map}
 use Rattle.rules.proofs.SumLaws.{sum_set}
 use Rattle.rules.proofs.Sheets.SoundLaws.{row_of, parent_row_lem, unit_row_lem, slot_row_lem, pending_row_lem}
-use Rattle.rules.specs.declared.Effect.TheVariants.{Refused}
 
 -- what a change must meet: unit u becomes x, slot s becomes y, and the debt as given
 pub record Fits (b : Sheet) (u s : ℕ) (x : UnitRecord) (y : Slot) (debt : ℕ) : Type 0 where
@@ -103,16 +102,16 @@ slot_change b h u s y debt k l c e w q = record {
 }
 
 -- ---- an effect: a refused one leaves the board as it was; one that fits keeps it sound
-pub refused_applied : (b : Sheet) (a : Action) (u s k : ℕ) → applied b a u s (Refused k) ≡ record { answer = k; sheet = b }
+pub refused_applied : (b : Sheet) (a : Action) (u s k : ℕ) → applied b a u s (Err k) ≡ record { answer = Err k; sheet = b }
 unfolding applied
 refused_applied b a u s k = rw (set-get_or b.parents u 0, set-get_or b.units u blank_unit, set-get_or b.slots s blank_slot, set-get_or b.created u 0, set-get_or b.processed u 0)
 
 -- so a judged effect, applied anywhere, is the applied effect judged: its refusals leave the board
-pub judged_applied : (b : Sheet) (a : Action) (u s : ℕ) (cs : List Check) (e : Effect) → applied b a u s (judge Refused cs e) ≡ judge (λ k. record { answer = k; sheet = b }) cs (applied b a u s e)
-judged_applied b a u s cs e = judge_map (applied b a u s) Refused cs e ∙ (λ i. judge (λ k. refused_applied b a u s k i) cs (applied b a u s e))
+pub judged_applied : (b : Sheet) (a : Action) (u s : ℕ) (cs : List Check) (e : Effect) → applied b a u s (judge Err cs e) ≡ judge (λ k. record { answer = Err k; sheet = b }) cs (applied b a u s e)
+judged_applied b a u s cs e = judge_map (applied b a u s) Err cs e ∙ (λ i. judge (λ k. refused_applied b a u s k i) cs (applied b a u s e))
 
 abbrev pub FitsEffect : Sheet → ℕ → ℕ → Effect → Type 0
-FitsEffect b u s (Refused k) = Unit {0}
+FitsEffect b u s (Err k) = Unit {0}
 FitsEffect b u s (OnUnit x debt) = Fits b u s x (slot_at b s) debt
 FitsEffect b u s (OnSlot y debt) = Fits b u s (unit_at b u) y debt
 FitsEffect b u s (OnBoth x y debt) = Fits b u s x y debt
@@ -120,7 +119,7 @@ FitsEffect b u s (OnParent p) = (u < b.n) × (s < b.m) × Claims (lower_parent u
 
 -- the counts that an accepted step of the action leaves
 abbrev pub CountsFitEffect : Sheet → Action → ℕ → ℕ → Effect → Type 0
-CountsFitEffect b a u s (Refused k) = Unit {0}
+CountsFitEffect b a u s (Err k) = Unit {0}
 CountsFitEffect b a u s (OnUnit x debt) = CountsFit b u s (slot_at b s) (counted (counts_at b u) (slot_at b s) a)
 CountsFitEffect b a u s (OnSlot y debt) = CountsFit b u s y (counted (counts_at b u) (slot_at b s) a)
 CountsFitEffect b a u s (OnBoth x y debt) = CountsFit b u s y (counted (counts_at b u) (slot_at b s) a)
@@ -128,7 +127,7 @@ CountsFitEffect b a u s (OnParent p) = CountsFit b u s (slot_at b s) (counted (c
 
 pub effect_sound : (b : Sheet) → Sound b → (a : Action) (u s : ℕ) (e : Effect) → FitsEffect b u s e → CountsFitEffect b a u s e → Sound (applied b a u s e).sheet
 unfolding applied
-effect_sound b h a u s (Refused k) f g = subst (λ (o : Outcome). Sound o.sheet) (sym (refused_applied b a u s k)) h
+effect_sound b h a u s (Err k) f g = subst (λ (o : Outcome). Sound o.sheet) (sym (refused_applied b a u s k)) h
 effect_sound b h a u s (OnUnit x debt) f g = change_sound b h u s x (parent_at b u) (slot_at b s) debt _ f (parent_row_lem b h u f.unit_used) g
 effect_sound b h a u s (OnSlot y debt) f g = change_sound b h u s (unit_at b u) (parent_at b u) y debt _ f (parent_row_lem b h u f.unit_used) g
 effect_sound b h a u s (OnBoth x y debt) f g = change_sound b h u s x (parent_at b u) y debt _ f (parent_row_lem b h u f.unit_used) g

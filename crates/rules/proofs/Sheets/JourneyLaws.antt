@@ -9,6 +9,7 @@ use native.Mathlib.Omega.{arith}
 use lib.ListN.{get_or, set, replicate}
 use lib.Seq.{get_or-set_same, get_or-set_other, set-get_or, set-set}
 use lib.Dec.{eqb-suc-zero}
+use Rattle.refusals.specs.Numbers.{number_of}
 use Rattle.rules.specs.Records.{is_empty, is_waiting, blank_unit, blank_slot, Waiting, Return, Action, Deliver, Tick, Release, OnSlot, OnBoth, UnitRecord, Slot, StepRecord}
 use Rattle.rules.specs.Facts.{Claims}
 use Rattle.rules.specs.Effects.{message, waiting_with, returned, deliver_checks, deliver_effect, created_by, processed_by}
@@ -62,7 +63,7 @@ step_leaves : (b : Sheet) (r : StepRecord) (a : Action) (u s debt : ℕ) (x : Un
     → step b r ≡ applied b a u s (OnBoth x y debt) → Leaves b (r ∷ []) (set b.units u x) (set b.slots s y)
 unfolding applied DrainOf after_all
 step_leaves b r a u s debt x y h n p q e = (
-  ((ap (λ (o : Outcome). o.answer) e, n), tt),
+  ((ap (λ (o : Outcome). number_of o.answer) e, n), tt),
   record {
     debt = debt;
     is = ap (λ (o : Outcome). o.sheet) e ∙ rw (set-get_or b.parents u 0, none_counted b.created u (created_by a) p, none_counted b.processed u (processed_by (slot_at b s) a) q);
