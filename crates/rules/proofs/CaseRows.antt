@@ -6,7 +6,8 @@ use Prim.Native.Nat.{ℕ, ◌<◌}
 use native.Mathlib.Omega.{arith}
 use lib.ListN.{length}
 use lib.Dec.{eqb}
-use Rattle.refusals.specs.Numbers.{number_of}
+use Rattle.std.specs.Prelude.{Ok}
+use Rattle.refusals.specs.Numbers.{number, number_of}
 use Rattle.rules.specs.Facts.{Fact, equal, holds, fails, Claim, Claims, tests, Each, each, sum_of, same_list, judge}
 use Rattle.rules.specs.Records.{is_waiting, ceiling, Action, Unknown, Start, Send, RequestStep, Deliver, Rest, Tick, Release, Move, Board, StepRecord, Outcome, Verdict, Working, Finished}
 use Rattle.rules.specs.Sheets.Sheet.{unit_at, slot_at}
@@ -106,16 +107,15 @@ steps_are (r ∷ rs) (q ∷ qs) e =
 tells_by : Bool → Verdict → Bool
 tells_by t Working = not t
 tells_by t Finished = t
-tells_by t (Err k) = false
 
 tells_by_lem : (t : Bool) (v : Verdict) → tells_by t v ≡ true → cond t Finished Working ≡ v
 unfolding tells_by
-tells_by_lem true = elim [ Working ↦ λ e. absurd (true_not_false (sym e)) | Finished ↦ λ e. refl | Err k ↦ λ e. absurd (true_not_false (sym e)) ]
-tells_by_lem false = elim [ Working ↦ λ e. refl | Finished ↦ λ e. absurd (true_not_false (sym e)) | Err k ↦ λ e. absurd (true_not_false (sym e)) ]
+tells_by_lem true = elim [ Working ↦ λ e. absurd (true_not_false (sym e)) | Finished ↦ λ e. refl ]
+tells_by_lem false = elim [ Working ↦ λ e. refl | Finished ↦ λ e. absurd (true_not_false (sym e)) ]
 
 row_row : Row → List Fact
 row_row (shares w given) = equal (share w) given ∷ []
-row_row (judges debt x y made a k) = equal (judge (λ j. j) (record_checks debt x y made a) 0) k ∷ []
+row_row (judges debt x y made a k) = equal (judge number (record_checks debt x y made a) 0) k ∷ []
 row_row (opens m d ps k) = equal (number_of (opening m d ps).answer) k ∷ []
 row_row (runs m d ps rs ks v) =
     equal (number_of (opening m d ps).answer) 0
@@ -137,7 +137,7 @@ row_right (runs m d ps rs ks v) c =
     let h : Sound f = (opening_sound m d ps c.0).0 in (
       c.0,
       quick_answers_lem f rs h ∙ same_is _ ks c.1.0,
-      verdict_sound (after f rs) (list_keeps_sound f rs h) ∙ ap (λ (b : Board). told_from b.debt) (quick_after_lem f rs h) ∙ tells_by_lem _ v c.1.1.0,
+      verdict_sound (after f rs) (list_keeps_sound f rs h) ∙ ap (λ (b : Board). Ok (told_from b.debt)) (quick_after_lem f rs h) ∙ ap (λ (t : Verdict). Ok t) (tells_by_lem _ v c.1.1.0),
     )
 row_right (bound_is m d ps rs ds k) c =
     let f : Board = (opening m d ps).board in

@@ -3,6 +3,7 @@ use mathlib.Core.Path.{◌≡◌, refl, sym, ap, ◌∙◌}
 use mathlib.Core.Bool.{Bool}
 use mathlib.Core.List.{List, [], ◌∷◌, ◌++◌}
 use Prim.Native.Nat.{ℕ}
+use Rattle.refusals.proofs.NumberLaws.{accepted_is}
 use Rattle.refusals.specs.Numbers.{number_of}
 use Rattle.rules.specs.Actions.{action_of}
 use Rattle.rules.specs.Events.{Events, after_all, all_answers}
@@ -41,14 +42,14 @@ abbrev CalmStep : Board → StepRecord → Type 0
 CalmStep b r = Calm steps ground_on entry_on touches b r
 
 -- the rounds that a step leaves
-rounds_shown : (b : Board) (r : StepRecord) → Sound b → (step b r).board.rounds ≡ rounds_kept (number_of (sheet_step (view b) r).answer) (action_of r.kind) b.rounds
+rounds_shown : (b : Board) (r : StepRecord) → Sound b → (step b r).board.rounds ≡ rounds_kept (sheet_step (view b) r).answer (action_of r.kind) b.rounds
 rounds_shown b r h = ap (λ (o : Outcome). o.board.rounds) (step_shown b r h)
 
 -- a step does on a board what it does on one that is the same where it touches: by their sheets, and both drop the rounds or neither
 step_follows : (b c : Board) (r : StepRecord) → Sound b → Sound c → CalmStep b r → Agrees steps ground_on entry_on touches b c r → Follows steps ground_on entry_on touches b c r
 step_follows b c r h k calm same = record {
   accepted = answer_shown c r k ∙ there;
-  grounds = λ i. record { sheet = sheets i; rounds = (rounds_shown c r k ∙ (λ j. rounds_kept ((there ∙ sym z) j) (action_of r.kind) (same.grounds j).rounds) ∙ sym (rounds_shown b r h)) i };
+  grounds = λ i. record { sheet = sheets i; rounds = (rounds_shown c r k ∙ (λ j. rounds_kept ((accepted_is (sheet_step (view c) r).answer there ∙ sym (accepted_is (sheet_step (view b) r).answer z)) j) (action_of r.kind) (same.grounds j).rounds) ∙ sym (rounds_shown b r h)) i };
   entries = λ p e.
       ap (λ (x : Sheet). entry_at x p) (step_view c r k) ∙ of-sheets.repeats_entry (view b) r h.sheet z (view c) k.sheet ground same.entries p e
       ∙ sym (ap (λ (x : Sheet). entry_at x p) (step_view b r h));
@@ -82,7 +83,7 @@ calm_step b r kept = (
   kept.accepted,
   λ i. record {
     sheet = (ap ground_of (step_view b r h) ∙ of-sheets.ground_left (view b) r h.sheet z d) i;
-    rounds = (rounds_shown b r h ∙ other_leaves r (number_of (sheet_step (view b) r).answer) b.rounds (of-sheets.no_start (view b) r h.sheet z d)) i;
+    rounds = (rounds_shown b r h ∙ other_leaves r (sheet_step (view b) r).answer b.rounds (of-sheets.no_start (view b) r h.sheet z d)) i;
   },
 )
   where

@@ -4,6 +4,9 @@ use mathlib.Core.Bool.{true, false, cond, ◌&&◌}
 use Prim.Native.Nat.{ℕ}
 use native.Mathlib.Omega.{arith}
 use lib.Dec.{eqb}
+use Rattle.refusals.proofs.NumberLaws.{accepted_ok}
+use Rattle.refusals.specs.declared.Refusal.{Refusal}
+use Rattle.std.specs.Prelude.{Result, is_ok}
 use Rattle.refusals.specs.Numbers.{number_of}
 use Rattle.rules.specs.Facts.{one_if}
 use Rattle.rules.specs.Actions.{action_of, is_action}
@@ -28,22 +31,22 @@ pub answer_shown : (b : Board) (r : StepRecord) → Sound b → number_of (step 
 answer_shown b r h = ap (λ (o : Outcome). number_of o.answer) (step_shown b r h)
 
 -- an accepted start drops the rounds, another accepted step leaves them
-pub start_drops : (r : StepRecord) (k : ℕ) (x : Rounds) → k ≡ 0 → is_action Start (action_of r.kind) ≡ true → rounds_kept k (action_of r.kind) x ≡ no_round
-start_drops r k x z e = rw (z, e)
+pub start_drops : (r : StepRecord) (k : Result (Unit {0}) Refusal) (x : Rounds) → number_of k ≡ 0 → is_action Start (action_of r.kind) ≡ true → rounds_kept k (action_of r.kind) x ≡ no_round
+start_drops r k x z e = rw (accepted_ok k z, e)
 
-pub other_leaves : (r : StepRecord) (k : ℕ) (x : Rounds) → is_action Start (action_of r.kind) ≡ false → rounds_kept k (action_of r.kind) x ≡ x
-other_leaves r k x e = by_test (λ t. cond (t && is_action Start (action_of r.kind)) no_round x ≡ x) (eqb k 0) (λ q. rw e) (λ q. refl)
+pub other_leaves : (r : StepRecord) (k : Result (Unit {0}) Refusal) (x : Rounds) → is_action Start (action_of r.kind) ≡ false → rounds_kept k (action_of r.kind) x ≡ x
+other_leaves r k x e = by_test (λ t. cond (t && is_action Start (action_of r.kind)) no_round x ≡ x) (is_ok k) (λ q. rw e) (λ q. refl)
 
 module _ (b : Board) (r : StepRecord) (h : Sound b) (z : number_of (sheet_step (view b) r).answer ≡ 0) where
   abbrev left : Sheet
   left = (sheet_step (view b) r).sheet
 
-  rounds_after_lem : SoundRounds (seen_of left) (rounds_kept (number_of (sheet_step (view b) r).answer) (action_of r.kind) b.rounds)
+  rounds_after_lem : SoundRounds (seen_of left) (rounds_kept (sheet_step (view b) r).answer (action_of r.kind) b.rounds)
   rounds_after_lem =
-      true_or_not (is_action Start (action_of r.kind)) (λ e. subst (SoundRounds (seen_of left)) (sym (start_drops r (number_of (sheet_step (view b) r).answer) b.rounds z e)) (none_sound (seen_of left)))
+      true_or_not (is_action Start (action_of r.kind)) (λ e. subst (SoundRounds (seen_of left)) (sym (start_drops r (sheet_step (view b) r).answer b.rounds z e)) (none_sound (seen_of left)))
       (λ e.
       let m = step_advances (view b) r h.sheet z (ap one_if e) in
-      subst (SoundRounds (seen_of left)) (sym (other_leaves r (number_of (sheet_step (view b) r).answer) b.rounds e)) (grown_sound (seen_of (view b)) (seen_of left) b.rounds m.same_units m.created_grows m.processed_grows h.rounds))
+      subst (SoundRounds (seen_of left)) (sym (other_leaves r (sheet_step (view b) r).answer b.rounds e)) (grown_sound (seen_of (view b)) (seen_of left) b.rounds m.same_units m.created_grows m.processed_grows h.rounds))
 
 pub step_keeps_sound : (b : Board) (r : StepRecord) → Sound b → Sound (step b r).board
 step_keeps_sound b r h =
@@ -59,4 +62,4 @@ event_keeps_sound b (visits u) h = by_visit (visit_tells b u)
     by_visit : VisitTells b u → Sound (visit b u).board
     by_visit (visited s c e) =
         subst (λ (o : Visited). Sound o.board) (sym e) (record { sheet = h.sheet; rounds = visited_sound (seen_of (view b)) b.rounds u h.rounds (omega (arith, h.sheet.s1_sizes)) c })
-    by_visit (unvisited k l e) = subst (λ (o : Visited). Sound o.board) (sym e) h
+    by_visit (unvisited k e) = subst (λ (o : Visited). Sound o.board) (sym e) h

@@ -38,7 +38,7 @@ visit_view b u = by_visit (visit_tells b u)
   where
     by_visit : VisitTells b u → view (visit b u).board ≡ view b
     by_visit (visited s c e) = ap (λ (o : Visited). view o.board) e
-    by_visit (unvisited k l e) = ap (λ (o : Visited). view o.board) e
+    by_visit (unvisited k e) = ap (λ (o : Visited). view o.board) e
 
 -- ---- a list of events
 -- the steps among them

@@ -5,6 +5,7 @@ use Prim.Native.Nat.{ℕ, ◌+◌, ◌*◌}
 use native.Mathlib.Nat.{zero-mul}
 use native.Mathlib.Omega.{arith}
 use lib.Seq.{set-get_or}
+use Rattle.std.specs.Prelude.{Ok}
 use Rattle.refusals.specs.Numbers.{number_of}
 use Rattle.rules.specs.Facts.{sum_of, one_if}
 use Rattle.rules.specs.Records.{is_active, is_waiting, is_work, is_return, blank_unit, blank_slot, State, Kind, Start, Move, Board, StepRecord, Outcome}
@@ -124,7 +125,7 @@ moves_change_parent b r m z =
     let h : Sound b = accepted_sound b r z in
     let told : AcceptedAs (view b) r Move = accepted_as (view b) r h.sheet Move m (sym (answer_shown b r h) ∙ z) in
     ap (λ (o : Outcome). o.board) (step_shown b r h)
-    ∙ (λ i. board_of (changing.move_does (view b) r told i) (other_leaves r (number_of (sheet_step (view b) r).answer) b.rounds (ap (is_action Start) m) i))
+    ∙ (λ i. board_of (changing.move_does (view b) r told i) (other_leaves r (sheet_step (view b) r).answer b.rounds (ap (is_action Start) m) i))
 
 pub moves_keep_verdict : MovesKeepVerdict
 unfolding MovesKeepVerdict MovesChangeParent
@@ -132,7 +133,7 @@ moves_keep_verdict b r m =
     accepted_or_not steps b r
     (λ z.
     let h : Sound b = accepted_sound b r z in
-    verdict_sound (step b r).board (step_keeps_sound b r h) ∙ ap (λ (c : Board). told_from c.debt) (moves_change_parent b r m z) ∙ sym (verdict_sound b h))
+    verdict_sound (step b r).board (step_keeps_sound b r h) ∙ ap (λ (c : Board). Ok (told_from c.debt)) (moves_change_parent b r m z) ∙ sym (verdict_sound b h))
     (λ n. ap verdict (refused_keeps b r n))
 
 pub accepted_changes : AcceptedChanges

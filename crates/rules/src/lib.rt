@@ -10,6 +10,8 @@ ghost use Rattle.rules.specs.Effects.{share, shared};
 use refusals::Refusal;
 
 // The state of a unit. Waiting, the rules' own term, is the state between resting and giving its weight back.
+// A unit's countdown stands beside its state and not in it, and a slot's weight beside its kind: any board may be handed over, also one
+// whose idle unit counts down or whose empty slot has weight, and `is_sound` tells it.
 #[derive(Clone, Copy, PartialEq, Eq)]
 pub enum State {
     Idle,
@@ -28,7 +30,7 @@ pub enum Kind {
 }
 
 // A unit: 16 bytes, since the board is copied by value.
-#[derive(Clone, Copy)]
+#[derive(Clone, Copy, PartialEq, Eq)]
 pub struct UnitRecord {
     pub weight: u64, // the rules' own term: its part of the debt, given away in shares and handed back
     pub countdown: u16, // of a waiting unit: the ticks until it may release
@@ -37,7 +39,7 @@ pub struct UnitRecord {
 }
 
 // A slot of the cable: 16 bytes.
-#[derive(Clone, Copy)]
+#[derive(Clone, Copy, PartialEq, Eq)]
 pub struct Slot {
     pub weight: u64, // under way with the message: none with a request
     pub from: u16, // the unit that sent it
@@ -53,7 +55,7 @@ pub enum Round {
 }
 
 // The counting rounds (M-105): a second way to see that all is quiet, beside the weights. No step but a start touches them.
-#[derive(Clone, Copy)]
+#[derive(Clone, Copy, PartialEq, Eq)]
 pub struct Rounds {
     pub round: Option<Round>, // the open one
     pub visited: [bool; 64], // the units that the open round has visited; false from n on
@@ -62,9 +64,9 @@ pub struct Rounds {
 }
 
 // The weight board. A caller may hand over any; which are sound is tested.
-// A number stands before the entries that it counts. With the gaps of this order a board has 6,136 bytes; with 6,120, the least, one copy
+// Fixed arrays with n and m beside them: a board is of fixed size, and no call allocates. A number stands before the entries that it counts. With the gaps of this order a board has 6,136 bytes; with 6,120, the least, one copy
 // in each step was slow for its distance (docs/PERFORMANCE.md, "Copies").
-#[derive(Clone, Copy)]
+#[derive(Clone, Copy, PartialEq, Eq)]
 pub struct Board {
     pub n: u16, // units in use, 1 to 64; unit 0 is the root, and tells the end
     pub parents: [u16; 64], // the parent of each unit, lower than the unit; 0 for unit 0
@@ -81,9 +83,9 @@ pub struct Board {
 // One step as a caller asks for it: a kind from 1 to 8, and the fields that the kind has a letter for.
 // Callers in other languages lend lists of it, so its layout is C's.
 #[repr(C)]
-#[derive(Clone, Copy)]
+#[derive(Clone, Copy, PartialEq, Eq)]
 pub struct StepRecord {
-    pub kind: u16, // start, send, request, deliver, rest, tick, release, move, from 1 on
+    pub kind: u16, // start, send, request, deliver, rest, tick, release, move, from 1 on; a number, since callers may hand over any
     pub unit: u16, // u: the unit that takes the step
     pub other: u16, // v: the unit that a send is for; p: the parent that a move gives (M-108)
     pub slot: u16, // s: the slot to fill, or to deliver
@@ -92,7 +94,38 @@ pub struct StepRecord {
 // How many kinds of step there are.
 pub const KINDS: u16 = 8;
 
-// A step's kind by name; Unknown stands for every number outside 1 to KINDS.
+// A record of no kind, which every board refuses.
+pub const NO_STEP: StepRecord = StepRecord {
+    kind: 0,
+    unit: 0,
+    other: 0,
+    slot: 0,
+};
+
+// Blank entries: idle, empty, all zero; and no counting round.
+pub const BLANK_UNIT: UnitRecord = UnitRecord {
+    weight: 0,
+    countdown: 0,
+    state: State::Idle,
+    suspended: false,
+};
+
+pub const BLANK_SLOT: Slot = Slot {
+    weight: 0,
+    from: 0,
+    to: 0,
+    kind: Kind::Empty,
+};
+
+pub const NO_ROUND: Rounds = Rounds {
+    round: None,
+    visited: [false; 64],
+    processed: 0,
+    created: 0,
+};
+
+// A step's kind by name; Unknown stands for every number outside 1 to KINDS. It is no Option: each table of the rules has a row for it, and no
+// second match around.
 #[derive(Clone, Copy, PartialEq, Eq)]
 pub enum Action {
     Unknown,
@@ -178,7 +211,8 @@ pub const FULL: u32 = 4294967295;
 pub const BATCH: usize = 512;
 
 // What a batch gives: as a run how many zeros there are among the answers, and the number of the answer to each step and the debt after
-// it. Entries behind those are 0 and mean nothing, and so are all entries where the batch is refused.
+// it. Entries behind those are 0 and mean nothing, and so are all entries where the batch is refused. Answers are numbers, as in the buffer that
+// a run is lent; answers and debts stand apart, as their definitions do.
 #[derive(Clone, Copy)]
 pub struct Batch {
     pub ran: Result<usize, Refusal>,

@@ -7,6 +7,7 @@ use Prim.Native.Nat.{ℕ, zero, suc, ◌+◌, ◌*◌, ◌≤◌, ◌<◌}
 use native.Mathlib.Nat.{mul-le-mul_left}
 use native.Mathlib.Omega.{arith}
 use lib.ListN.{length}
+use Rattle.std.specs.Prelude.{Ok}
 use Rattle.refusals.specs.Numbers.{number_of}
 use Rattle.refusals.specs.declared.Refusal.TheVariants.{SlotEmpty}
 use Rattle.rules.specs.Facts.{Claims, check, fails}
@@ -40,9 +41,9 @@ drain_length b (r ∷ rs) h q z =
 
 -- ---- on a quiet board with something out, some step is accepted
 -- an effect of a delivered return is no refusal
-return_answer : (b : Sheet) (u s debt d : ℕ) (x : UnitRecord) (y : Slot) → number_of (applied b Deliver u s (return_effect debt d x y)).answer ≡ 0
+return_answer : (b : Sheet) (u s debt d : ℕ) (x : UnitRecord) (y : Slot) → number_of (applied b Deliver u s (Ok (return_effect debt d x y))).answer ≡ 0
 unfolding applied
-return_answer b u s debt d x y = root_or_other (λ z w. number_of (applied b Deliver u s z).answer ≡ 0) y.to 0 _ _ (λ e. refl) (λ l. refl)
+return_answer b u s debt d x y = root_or_other (λ z w. number_of (applied b Deliver u s (Ok z)).answer ≡ 0) y.to 0 _ _ (λ e. refl) (λ l. refl)
 
 module _ (b : Sheet) (h : Sound b) (q : Quiet b) where
   deliver_longer : (s : ℕ) → s < b.m → (slot_at b s).kind ≡ Return → Longer sheets b
