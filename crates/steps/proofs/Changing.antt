@@ -1,6 +1,6 @@
 -- A change stored at its places is the step: what the step and each turn of a batch rest on.
 use mathlib.Core.Path.{◌≡◌, refl, sym, ap, ◌∙◌}
-use mathlib.Core.Bool.{Bool, true, false, cond, ◌&&◌}
+use mathlib.Core.Bool.{Bool, true, cond, ◌&&◌}
 use mathlib.Core.List.{List, ◌++◌}
 use Prim.Native.Nat.{ℕ, ◌+◌, ◌≤◌, ◌<◌, ◌^◌, min}
 use native.Mathlib.Omega.{arith}
@@ -17,26 +17,26 @@ use Rattle.rules.specs.declared.Action.TheVariants.{Unknown, Start, Send, Reques
 use Rattle.rules.specs.declared.Effect.{Effect}
 use Rattle.rules.specs.declared.Counts.{Counts}
 use Rattle.rules.specs.declared.Change.{Change}
-use Rattle.rules.specs.declared.Outcome.{Outcome}
 use Rattle.rules.specs.Actions.{action_of, is_action}
 use Rattle.rules.specs.Rounds.{no_round}
-use Rattle.rules.specs.Letters.{place_checks}
+use Rattle.rules.specs.Letters.{place_checks, slot_of, unit_by}
 use Rattle.rules.specs.Effects.{created_by, processed_by, counted, record_checks, record_effect, record_rule, change_of}
-use Rattle.rules.specs.Sheets.Sheet.{Sheet, parent_at, unit_at, slot_at, counts_at, Outcome as SheetOutcome}
+use Rattle.rules.specs.Sheets.Sheet.{Sheet, parent_at, unit_at, slot_at, counts_at}
 use Rattle.rules.specs.Sheets.Sound.{Sound as SoundSheet, total}
-use Rattle.rules.specs.Sheets.Steps.{effect, stored, applied, sound_step as sheet_sound_step}
+use Rattle.rules.specs.Sheets.Steps.{unit_of, effect_by, effect, stored, applied, sound_step as sheet_sound_step}
 use Rattle.rules.specs.Boards.{view, board_of}
 use Rattle.rules.specs.Sound.{Sound, sound}
-use Rattle.rules.specs.Steps.{rounds_kept, on_board, sound_step, step}
+use Rattle.rules.specs.Steps.{on_board, sound_step, step}
 use Rattle.rules.specs.declared.Effect.TheVariants.{Refused}
 use Rattle.rules.proofs.FactLaws.{asked, fact_shown}
 use Rattle.rules.proofs.JudgeLaws.{judge_map, judge_same, judge_append}
 use Rattle.rules.proofs.SumLaws.{sum_part, sum_most}
 use Rattle.rules.proofs.SoundLaws.{sound_claims}
-use Rattle.rules.proofs.Sheets.SoundLaws.{weights_fit, created_most}
-use Rattle.rules.proofs.Sheets.Changes.{refused_applied}
-use Rattle.steps.specs.WeightsFit.{WeightsFit}
-use Rattle.steps.specs.Changing.{slot_place, unit_place, counted_up, change_at}
+use Rattle.rules.proofs.Sheets.SoundLaws.{created_most}
+use Rattle.rules.proofs.Views.{step_sound}
+use Rattle.steps.specs.declared.found.Found.{Found}
+use Rattle.steps.specs.declared.places.Places.{Places}
+use Rattle.steps.specs.Changing.{FoundAt, counted_up, change_at, stored_on}
 use Rattle.steps.proofs.Clamping.{clamped_step}
 
 -- ---- counts: where the whole bracket holds, no full count is to grow
@@ -79,52 +79,27 @@ pub processed_room : (b : Sheet) → SoundSheet b → (i : ℕ) → (counts_at b
 unfolding total
 processed_room b h i = omega (arith, sum_part (λ j x. x) b.processed i 0 (λ j. refl), h.counts_balance, sum_most (λ j x. x) full b.created 0 (λ j l. created_most b h j), h.s1_sizes)
 
-module _ (b : Sheet) (r : StepRecord) (h : SoundSheet b) (u s : ℕ) (slot_is : s ≡ slot_place r) (unit-is : u ≡ unit_place r (slot_at b s).to) where
-  -- the weights there are part of the debt, and the processed count can grow
-  pub place_weights : WeightsFit b.debt (unit_at b u) (slot_at b s) (action_of r.kind) × ((counts_at b u).processed + 1 < 2 ^ 64)
-  place_weights = (
-    record {
-      most = h.s5_s6_debt.1.0;
-      unit = omega (arith, weights_fit b h u s);
-      delivered = λ e. weights_fit b h u s;
-    },
-    processed_room b h u,
-  )
-
-  stored_sheet : (c : Change) → c ≡ change_at true b.n b.m b.debt b.delay r (unit_at b u) (parent_at b u) (slot_at b s) (counts_at b u) → stored b u s c ≡ sheet_sound_step b r
-  unfolding applied sheet_sound_step effect
+module _ (b : Sheet) (r : StepRecord) (h : SoundSheet b) (a : Action) (at : Places) (slot-is : at.slot ≡ min (slot_of r a) 255) (unit-is : at.unit ≡ min (unit_by r (slot_at b at.slot).to a) 63) (f : Found) (found : FoundAt b at f) where
+  stored_sheet : (c : Change) → c ≡ change_at b.n b.m f.debt f.delay r f.unit f.parent f.slot f.counts a → stored b at.unit at.slot c ≡ applied b a (unit_of b r a) (slot_of r a) (effect_by b r a)
+  unfolding applied
   stored_sheet c e =
-      ap (stored b u s) (e ∙ counted_alike b.n b.m b.debt b.delay r (unit_at b u) (parent_at b u) (slot_at b s) (counts_at b u) (created_most b h u) (action_of r.kind))
-      ∙ clamped_step b h r (action_of r.kind) u s slot_is unit-is
+      ap (stored b at.unit at.slot)
+      (e
+      ∙ (λ i. change_at b.n b.m (found.debt i) (found.delay i) r (found.unit i) (found.parent i) (found.slot i) (found.counts i) a)
+      ∙ counted_alike b.n b.m b.debt b.delay r (unit_at b at.unit) (parent_at b at.unit) (slot_at b at.slot) (counts_at b at.unit) (created_most b h at.unit) a)
+      ∙ clamped_step b h r a at.unit at.slot slot-is unit-is
 
 -- ---- on a board
--- the outcome that the change makes of it, where the rounds are dropped or not
-abbrev pub stored_on : Board → StepRecord → ℕ → ℕ → Change → Outcome
-stored_on b r u s c = on_board b.rounds (action_of r.kind) (stored (view b) u s c)
+pub stored_step : (b : Board) (r : StepRecord) → sound b ≡ true → (a : Action) → a ≡ action_of r.kind → (at : Places) → at.slot ≡ min (slot_of r a) 255 → at.unit ≡ min (unit_by r (slot_at (view b) at.slot).to a) 63
+    → (f : Found) → FoundAt (view b) at f → (c : Change) → c ≡ change_at b.n b.m f.debt f.delay r f.unit f.parent f.slot f.counts a → step b r ≡ stored_on b (action_of r.kind) at c
+unfolding sound_step sheet_sound_step effect
+stored_step b r t a a-is at slot-is unit-is f found c e =
+    let h : Sound b = sound_claims b t in
+    step_sound b r h
+    ∙ ap (λ (x : Action). on_board b.rounds (action_of r.kind) (applied (view b) x (unit_of (view b) r x) (slot_of r x) (effect_by (view b) r x))) (sym a-is)
+    ∙ ap (on_board b.rounds (action_of r.kind)) (sym (stored_sheet (view b) r h.sheet a at slot-is unit-is f found c e))
 
-pub stored_step : (b : Board) (r : StepRecord) → Sound b → (u s : ℕ) → s ≡ slot_place r → u ≡ unit_place r (slot_at (view b) s).to → (c : Change)
-    → c ≡ change_at true b.n b.m b.debt b.delay r (unit_at (view b) u) (parent_at (view b) u) (slot_at (view b) s) (counts_at (view b) u) → stored_on b r u s c ≡ sound_step b r
-unfolding sound_step
-stored_step b r h u s slot_is unit-is c e = ap (λ (o : SheetOutcome). on_board b.rounds (action_of r.kind) o) (stored_sheet (view b) r h.sheet u s slot_is unit-is c e)
-
--- where the board is not sound, what was read is stored
-pub stored_tested : (t : Bool) (b : Board) (r : StepRecord) → t ≡ sound b → (u s : ℕ) → s ≡ slot_place r → u ≡ unit_place r (slot_at (view b) s).to
-    → (c : Change) → c ≡ change_at t b.n b.m b.debt b.delay r (unit_at (view b) u) (parent_at (view b) u) (slot_at (view b) s) (counts_at (view b) u) → stored_on b r u s c ≡ step b r
-unfolding applied step
-stored_tested true b r t-is u s slot_is unit-is c e =
-    let h : Sound b = sound_claims b (sym t-is) in
-    stored_step b r h u s slot_is unit-is c e ∙ rw (← t-is)
-stored_tested false b r t-is u s slot_is unit-is c e =
-    ap (stored_on b r u s) e ∙ ap (λ (o : SheetOutcome). on_board b.rounds (action_of r.kind) o) (refused_applied (view b) (action_of r.kind) u s 30) ∙ rw (← t-is)
-
--- ---- the rounds as the code leaves them: dropped where its test says so
-pub rounds_dropped : (k : ℕ) (a : Action) (x y : Rounds) (t : Bool) → t ≡ (eqb k 0 && is_action Start a) → t ≡ true → y ≡ no_round → y ≡ rounds_kept k a x
-rounds_dropped k a x y t e q z = z ∙ sym (ap (λ (o : Bool). cond o no_round x) (sym e ∙ q))
-
-pub rounds_kept_lem : (k : ℕ) (a : Action) (x : Rounds) (t : Bool) → t ≡ (eqb k 0 && is_action Start a) → t ≡ false → x ≡ rounds_kept k a x
-rounds_kept_lem k a x t e q = sym (ap (λ (o : Bool). cond o no_round x) (sym e ∙ q))
-
--- the outcome with its rounds named
-pub rounds_named : (b : Board) (r : StepRecord) (u s : ℕ) (c : Change) (k : Rounds) (o : Outcome) → k ≡ rounds_kept c.answer (action_of r.kind) b.rounds → stored_on b r u s c ≡ o
-    → record { answer = c.answer; board = board_of (stored (view b) u s c).sheet k } ≡ o
-rounds_named b r u s c k o e q = ap (λ (x : Rounds). record { answer = c.answer; board = board_of (stored (view b) u s c).sheet x }) e ∙ q
+-- the outcome with the rounds k that the code leaves where its test is u
+pub rounds_left : (b : Board) (r : StepRecord) (at : Places) (c : Change) → step b r ≡ stored_on b (action_of r.kind) at c → (t u : Bool) (k : Rounds) → t ≡ (eqb c.answer 0 && is_action Start (action_of r.kind)) → t ≡ u → cond u no_round b.rounds ≡ k
+    → step b r ≡ record { answer = c.answer; board = board_of (stored (view b) at.unit at.slot c).sheet k }
+rounds_left b r at c e t u k f g h = e ∙ ap (λ (x : Rounds). record { answer = c.answer; board = board_of (stored (view b) at.unit at.slot c).sheet x }) (ap (λ (q : Bool). cond q no_round b.rounds) (sym f ∙ g) ∙ h)
