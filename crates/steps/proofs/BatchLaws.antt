@@ -10,6 +10,12 @@ use mir.Val.{bool_byte as from_bool}
 use lib.Dec.{eqb}
 use lib.ListN.{length, get_or, set, take, drop, replicate, length-replicate, drop_of_length-le}
 use lib.Seq.{sets, sets-eq, drop-cons}
+use borrow.Author.Tests.{ne_eqb}
+use Rattle.std.specs.Prelude.{Result, Ok, Err, is_ok}
+use Rattle.refusals.proofs.NumberLaws.{refused_above_zero}
+use Rattle.refusals.specs.declared.Refusal.TheVariants.{NotSound}
+use Rattle.refusals.specs.declared.Refusal.{Refusal}
+use Rattle.refusals.specs.Numbers.{number, number_of}
 use Rattle.std.proofs.lemmas.List.{take_min}
 use Rattle.rules.specs.Events.{after_all, all_answers}
 use Rattle.rules.specs.Facts.{one_if}
@@ -22,7 +28,6 @@ use Rattle.rules.specs.declared.Board.{Board}
 use Rattle.rules.specs.declared.StepRecord.{StepRecord}
 use Rattle.rules.specs.declared.Outcome.{Outcome}
 use Rattle.rules.specs.declared.Batch.{Batch}
-use Rattle.rules.specs.declared.Ran.TheVariants.{Zeros, Refused}
 use Rattle.rules.proofs.Theorem.{steps_carry}
 use Rattle.rules.proofs.EventSound.{step_keeps_sound}
 use Rattle.rules.proofs.SoundLaws.{sound_claims, sound_tested}
@@ -31,7 +36,7 @@ use Rattle.steps.specs.NoStep.{no_step}
 
 -- the batch where the steps rs are left on the board b, z zeros are counted, and the next answer and the next debt go to place i of ks and ds
 unfoldable pub filled : Board → List StepRecord → ℕ → ℕ → List ℕ → List ℕ → Batch
-filled b rs z i ks ds = record { ran = Zeros (z + zeros (answers b rs)); board = after b rs; answers = sets ks i (answers b rs); debts = sets ds i (debts b rs) }
+filled b rs z i ks ds = record { ran = Ok (z + zeros (answers b rs)); board = after b rs; answers = sets ks i (answers b rs); debts = sets ds i (debts b rs) }
 
 -- ---- a turn
 pub one_more : (z m : ℕ) (t : Bool) → (z + one_if t) + m ≡ z + cond t (suc m) m
@@ -39,28 +44,28 @@ one_more z m true = omega arith
 one_more z m false = omega arith
 
 filled_step : (b : Board) (r : StepRecord) (rs : List StepRecord) (z i : ℕ) (ks ds : List ℕ)
-    → filled (step b r).board rs (z + one_if (accepted b r)) (suc i) (set ks i (step b r).answer) (set ds i (step b r).board.debt) ≡ filled b (r ∷ rs) z i ks ds
+    → filled (step b r).board rs (z + one_if (accepted b r)) (suc i) (set ks i (number_of (step b r).answer)) (set ds i (step b r).board.debt) ≡ filled b (r ∷ rs) z i ks ds
 unfolding filled after_all all_answers debts zeros
 filled_step b r rs z i ks ds =
     let c : Board = (step b r).board in
-    ap (λ (m : ℕ). record { ran = Zeros m; board = after c rs; answers = sets (set ks i (step b r).answer) (suc i) (answers c rs); debts = sets (set ds i c.debt) (suc i) (debts c rs) })
+    ap (λ (m : ℕ). record { ran = Ok m; board = after c rs; answers = sets (set ks i (number_of (step b r).answer)) (suc i) (answers c rs); debts = sets (set ds i c.debt) (suc i) (debts c rs) })
     (one_more z (zeros (answers c rs)) (accepted b r))
 
 -- the step at place i of the list, with its outcome o stored and counted, leaves what the steps from i on gave
 filled_turn : (rs : List StepRecord) (b : Board) (z i : ℕ) (ks ds : List ℕ) (o : Outcome) → i < length rs → step b (get_or rs i no_step) ≡ o
-    → filled o.board (drop (i + 1) rs) (z + one_if (eqb o.answer 0)) (i + 1) (set ks i o.answer) (set ds i o.board.debt) ≡ filled b (drop i rs) z i ks ds
+    → filled o.board (drop (i + 1) rs) (z + one_if (eqb (number_of o.answer) 0)) (i + 1) (set ks i (number_of o.answer)) (set ds i o.board.debt) ≡ filled b (drop i rs) z i ks ds
 filled_turn rs b z i ks ds o l e =
-    ap (λ (j : ℕ). filled o.board (drop j rs) (z + one_if (eqb o.answer 0)) j (set ks i o.answer) (set ds i o.board.debt)) (add-one i)
-    ∙ ap (λ (p : Outcome). filled p.board (drop (suc i) rs) (z + one_if (eqb p.answer 0)) (suc i) (set ks i p.answer) (set ds i p.board.debt)) (sym e)
+    ap (λ (j : ℕ). filled o.board (drop j rs) (z + one_if (eqb (number_of o.answer) 0)) j (set ks i (number_of o.answer)) (set ds i o.board.debt)) (add-one i)
+    ∙ ap (λ (p : Outcome). filled p.board (drop (suc i) rs) (z + one_if (eqb (number_of p.answer) 0)) (suc i) (set ks i (number_of p.answer)) (set ds i p.board.debt)) (sym e)
     ∙ filled_step b (get_or rs i no_step) (drop (suc i) rs) z i ks ds
     ∙ ap (λ (qs : List StepRecord). filled b qs z i ks ds) (sym (drop-cons rs i no_step l))
 
 -- ---- the end
-filled_none : (b : Board) (z i : ℕ) (ks ds : List ℕ) → filled b [] z i ks ds ≡ record { ran = Zeros z; board = b; answers = ks; debts = ds }
+filled_none : (b : Board) (z i : ℕ) (ks ds : List ℕ) → filled b [] z i ks ds ≡ record { ran = Ok z; board = b; answers = ks; debts = ds }
 unfolding filled after_all all_answers debts zeros
-filled_none b z i ks ds = ap (λ (m : ℕ). record { ran = Zeros m; board = b; answers = ks; debts = ds }) (add-zero z)
+filled_none b z i ks ds = ap (λ (m : ℕ). record { ran = Ok m; board = b; answers = ks; debts = ds }) (add-zero z)
 
-filled_end : (rs : List StepRecord) (b : Board) (z i : ℕ) (ks ds : List ℕ) → length rs ≤ i → filled b (drop i rs) z i ks ds ≡ record { ran = Zeros z; board = b; answers = ks; debts = ds }
+filled_end : (rs : List StepRecord) (b : Board) (z i : ℕ) (ks ds : List ℕ) → length rs ≤ i → filled b (drop i rs) z i ks ds ≡ record { ran = Ok z; board = b; answers = ks; debts = ds }
 filled_end rs b z i ks ds l = ap (λ (qs : List StepRecord). filled b qs z i ks ds) (drop_of_length-le rs {i = i} l) ∙ filled_none b z i ks ds
 
 -- ---- at the head of each turn of a loop over the steps rs: what is left from here gives the whole, and the board is sound
@@ -73,19 +78,23 @@ counted : (t : Bool) → from_bool t ≡ one_if t
 counted true = refl
 counted false = refl
 
+ok_is_zero : (k : Result (Unit {0}) Refusal) → is_ok k ≡ eqb (number_of k) 0
+ok_is_zero (Ok x) = refl
+ok_is_zero (Err k) = sym (ne_eqb (number k) 0 (refused_above_zero k))
+
 module _ (whole : Batch) (rs : List StepRecord) (b : Board) (z i : ℕ) (ks ds : List ℕ) (turn : Turn whole rs b z i ks ds) where
   -- the turn of the step at place i, with its answer and its debt stored, and counted as the code counts
-  pub turned : (c : Board) (k n : ℕ) → i < length rs → step b (get_or rs i no_step) ≡ record { answer = k; board = c } → n ≡ from_bool (eqb k 0)
-      → Turn whole rs c (z + n) (i + 1) (set ks i k) (set ds i c.debt)
+  pub turned : (c : Board) (k : Result (Unit {0}) Refusal) (n : ℕ) → i < length rs → step b (get_or rs i no_step) ≡ record { answer = k; board = c } → n ≡ from_bool (is_ok k)
+      → Turn whole rs c (z + n) (i + 1) (set ks i (number_of k)) (set ds i c.debt)
   turned c k n l e f =
-      let g : n ≡ one_if (eqb k 0) = f ∙ counted (eqb k 0) in
+      let g : n ≡ one_if (eqb (number_of k) 0) = f ∙ ap from_bool (ok_is_zero k) ∙ counted (eqb (number_of k) 0) in
       record {
-        few = omega (arith, g, one_at_most (eqb k 0), turn.few);
+        few = omega (arith, g, one_at_most (eqb (number_of k) 0), turn.few);
         is_sound = subst (λ (o : Outcome). sound o.board ≡ true) e (sound_tested _ (step_keeps_sound b (get_or rs i no_step) (sound_claims b turn.is_sound)));
-        gives = ap (λ (m : ℕ). filled c (drop (i + 1) rs) (z + m) (i + 1) (set ks i k) (set ds i c.debt)) g ∙ filled_turn rs b z i ks ds (record { answer = k; board = c }) l e ∙ turn.gives;
+        gives = ap (λ (m : ℕ). filled c (drop (i + 1) rs) (z + m) (i + 1) (set ks i (number_of k)) (set ds i c.debt)) g ∙ filled_turn rs b z i ks ds (record { answer = k; board = c }) l e ∙ turn.gives;
       }
 
-  pub ended : length rs ≤ i → record { ran = Zeros z; board = b; answers = ks; debts = ds } ≡ whole
+  pub ended : length rs ≤ i → record { ran = Ok z; board = b; answers = ks; debts = ds } ≡ whole
   ended l = sym (filled_end rs b z i ks ds l) ∙ turn.gives
 
 -- ---- the whole
@@ -121,8 +130,8 @@ asked_steps steps count n all e = ap (λ (k : ℕ). take k steps) (e ∙ ap (min
 -- the definition of a batch, by the test of soundness
 abbrev batch_by : Bool → Board → List StepRecord → Batch
 batch_by t b rs =
-    cond t (record { ran = Zeros (zeros (answers b rs)); board = after b rs; answers = padded (answers b rs); debts = padded (debts b rs) })
-    (record { ran = Refused 30; board = b; answers = padded []; debts = padded [] })
+    cond t (record { ran = Ok (zeros (answers b rs)); board = after b rs; answers = padded (answers b rs); debts = padded (debts b rs) })
+    (record { ran = Err NotSound; board = b; answers = padded []; debts = padded [] })
 
 pub filled_batch : (b : Board) (rs : List StepRecord) → sound b ≡ true → length rs ≤ batch_most → filled b rs 0 0 noughts noughts ≡ batch b rs
 unfolding filled batch
@@ -131,7 +140,7 @@ filled_batch b rs t l =
     let f : sets noughts 0 (debts b rs) ≡ padded (debts b rs) = noughts_padded (debts b rs) (omega (arith, debts_length b rs)) in
     rw (e, f, zero-add, t)
 
-pub unsound_batch : (b : Board) (rs : List StepRecord) → sound b ≡ false → record { ran = Refused 30; board = b; answers = noughts; debts = noughts } ≡ batch b rs
+pub unsound_batch : (b : Board) (rs : List StepRecord) → sound b ≡ false → record { ran = Err NotSound; board = b; answers = noughts; debts = noughts } ≡ batch b rs
 unfolding batch
 unsound_batch b rs t = rw t
 

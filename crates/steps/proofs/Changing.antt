@@ -5,6 +5,8 @@ use mathlib.Core.List.{List, ◌++◌}
 use Prim.Native.Nat.{ℕ, ◌+◌, ◌≤◌, ◌<◌, ◌^◌, min}
 use native.Mathlib.Omega.{arith}
 use lib.Dec.{eqb}
+use Rattle.refusals.specs.declared.Refusal.{Refusal}
+use Rattle.std.specs.Prelude.{Result, Ok, Err, is_ok}
 use Rattle.rules.specs.Facts.{Claims, Check, judge}
 use Rattle.rules.specs.Records.{full}
 use Rattle.rules.specs.declared.UnitRecord.{UnitRecord}
@@ -27,7 +29,6 @@ use Rattle.rules.specs.Sheets.Steps.{unit_of, effect_by, effect, stored, applied
 use Rattle.rules.specs.Boards.{view, board_of}
 use Rattle.rules.specs.Sound.{Sound, sound}
 use Rattle.rules.specs.Steps.{on_board, sound_step, step}
-use Rattle.rules.specs.declared.Effect.TheVariants.{Refused}
 use Rattle.rules.proofs.FactLaws.{asked, fact_shown}
 use Rattle.rules.proofs.JudgeLaws.{judge_map, judge_same, judge_append}
 use Rattle.rules.proofs.SumLaws.{sum_part, sum_most}
@@ -41,11 +42,11 @@ use Rattle.steps.proofs.Clamping.{clamped_step}
 
 -- ---- counts: where the whole bracket holds, no full count is to grow
 -- a judged effect changes alike with counts that are the same where its checks hold
-counts_alike : (x : UnitRecord) (p : ℕ) (y : Slot) (debt : ℕ) (k c d : Counts) (cs : List Check) (e : Effect) → (Claims (asked cs) → c ≡ d) → change_of (judge Refused cs e) x p y debt k c ≡ change_of (judge Refused cs e) x p y debt k d
+counts_alike : (x : UnitRecord) (p : ℕ) (y : Slot) (debt : ℕ) (k c d : Counts) (cs : List Check) (e : Result Effect Refusal) → (Claims (asked cs) → c ≡ d) → change_of (judge Err cs e) x p y debt k c ≡ change_of (judge Err cs e) x p y debt k d
 counts_alike x p y debt k c d cs e same =
-    judge_map (λ (f : Effect). change_of f x p y debt k c) Refused cs e
-    ∙ judge_same (λ j. record { answer = j; parent = p; debt = debt; unit = x; slot = y; counts = k }) cs (change_of e x p y debt k c) (change_of e x p y debt k d) (λ q. ap (change_of e x p y debt k) (same q))
-    ∙ sym (judge_map (λ (f : Effect). change_of f x p y debt k d) Refused cs e)
+    judge_map (λ (f : Result Effect Refusal). change_of f x p y debt k c) Err cs e
+    ∙ judge_same (λ j. record { answer = Err j; parent = p; debt = debt; unit = x; slot = y; counts = k }) cs (change_of e x p y debt k c) (change_of e x p y debt k d) (λ q. ap (change_of e x p y debt k) (same q))
+    ∙ sym (judge_map (λ (f : Result Effect Refusal). change_of f x p y debt k d) Err cs e)
 
 module _ (n m debt delay : ℕ) (r : StepRecord) (x : UnitRecord) (p : ℕ) (y : Slot) (k : Counts) (most : k.created ≤ full) where
   abbrev row : Action → List Check
@@ -63,16 +64,16 @@ module _ (n m debt delay : ℕ) (r : StepRecord) (x : UnitRecord) (p : ℕ) (y :
   not_full Release c = omega (arith, most)
   not_full Move c = omega (arith, most)
 
-  pub counted_alike : (a : Action) → change_of (judge Refused (place_checks n m r a) (record_rule debt delay r x p y k.created a)) x p y debt k (counted_up k y a)
-      ≡ change_of (judge Refused (place_checks n m r a) (record_rule debt delay r x p y k.created a)) x p y debt k (counted k y a)
+  pub counted_alike : (a : Action) → change_of (judge Err (place_checks n m r a) (record_rule debt delay r x p y k.created a)) x p y debt k (counted_up k y a)
+      ≡ change_of (judge Err (place_checks n m r a) (record_rule debt delay r x p y k.created a)) x p y debt k (counted k y a)
   unfolding record_rule
   counted_alike a =
-      ap (λ (e : Effect). change_of e x p y debt k (counted_up k y a)) (sym appended)
+      ap (λ (e : Result Effect Refusal). change_of e x p y debt k (counted_up k y a)) (sym appended)
       ∙ counts_alike x p y debt k (counted_up k y a) (counted k y a) (row a) (record_effect debt delay r x p y a) (λ c i. record { created = not_full a c i; processed = k.processed + processed_by y a })
-      ∙ ap (λ (e : Effect). change_of e x p y debt k (counted k y a)) appended
+      ∙ ap (λ (e : Result Effect Refusal). change_of e x p y debt k (counted k y a)) appended
     where
-      appended : judge Refused (row a) (record_effect debt delay r x p y a) ≡ judge Refused (place_checks n m r a) (judge Refused (record_checks debt x y k.created a) (record_effect debt delay r x p y a))
-      appended = judge_append Refused (place_checks n m r a) (record_checks debt x y k.created a) (record_effect debt delay r x p y a)
+      appended : judge Err (row a) (record_effect debt delay r x p y a) ≡ judge Err (place_checks n m r a) (judge Err (record_checks debt x y k.created a) (record_effect debt delay r x p y a))
+      appended = judge_append Err (place_checks n m r a) (record_checks debt x y k.created a) (record_effect debt delay r x p y a)
 
 -- a processed count of a sound sheet is far below 2^64
 pub processed_room : (b : Sheet) → SoundSheet b → (i : ℕ) → (counts_at b i).processed + 1 < 2 ^ 64
@@ -100,6 +101,6 @@ stored_step b r t a a-is at slot-is unit-is f found c e =
     ∙ ap (on_board b.rounds (action_of r.kind)) (sym (stored_sheet (view b) r h.sheet a at slot-is unit-is f found c e))
 
 -- the outcome with the rounds k that the code leaves where its test is u
-pub rounds_left : (b : Board) (r : StepRecord) (at : Places) (c : Change) → step b r ≡ stored_on b (action_of r.kind) at c → (t u : Bool) (k : Rounds) → t ≡ (eqb c.answer 0 && is_action Start (action_of r.kind)) → t ≡ u → cond u no_round b.rounds ≡ k
+pub rounds_left : (b : Board) (r : StepRecord) (at : Places) (c : Change) → step b r ≡ stored_on b (action_of r.kind) at c → (t u : Bool) (k : Rounds) → t ≡ (is_ok c.answer && is_action Start (action_of r.kind)) → t ≡ u → cond u no_round b.rounds ≡ k
     → step b r ≡ record { answer = c.answer; board = board_of (stored (view b) at.unit at.slot c).sheet k }
 rounds_left b r at c e t u k f g h = e ∙ ap (λ (x : Rounds). record { answer = c.answer; board = board_of (stored (view b) at.unit at.slot c).sheet x }) (ap (λ (q : Bool). cond q no_round b.rounds) (sym f ∙ g) ∙ h)

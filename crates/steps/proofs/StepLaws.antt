@@ -2,6 +2,8 @@
 use mathlib.Core.Path.{◌≡◌, sym, ap, subst}
 use mathlib.Core.Bool.{false}
 use mathlib.Core.List.{[], ◌∷◌}
+use Rattle.refusals.specs.declared.Refusal.TheVariants.{NotSound}
+use Rattle.std.specs.Prelude.{Err}
 use Rattle.rules.specs.Events.{after_all}
 use Rattle.rules.specs.Sound.{sound}
 use Rattle.rules.specs.Steps.{step}
@@ -23,9 +25,9 @@ step_meets b r o e = record {
 }
 
 -- a board that is not sound refuses the step, and is left
-pub unsound_meets : (b : Board) (r : StepRecord) → sound b ≡ false → StepMeets b r 30 b
+pub unsound_meets : (b : Board) (r : StepRecord) → sound b ≡ false → StepMeets b r (Err NotSound) b
 unfolding step
-unsound_meets b r t = step_meets b r (record { answer = 30; board = b }) (rw t)
+unsound_meets b r t = step_meets b r (record { answer = Err NotSound; board = b }) (rw t)
 
 -- answer and board are all that an outcome has
 pub step_met : (b : Board) (r : StepRecord) (o : Outcome) → StepMeets b r o.answer o.board → o ≡ step b r

@@ -1,6 +1,7 @@
 -- What a step changes, from what it finds at its places alone.
 -- For private contracts only; a reader of the claim may skip this.
-use Rattle.std.specs.Prelude.{◌≡◌, ℕ, ◌+◌, min}
+use Rattle.std.specs.Prelude.{◌≡◌, ℕ, ◌+◌, min, Result, Err}
+use Rattle.refusals.specs.declared.Refusal.{Refusal}
 use Rattle.rules.specs.Facts.{judge}
 use Rattle.rules.specs.Letters.{place_checks}
 use Rattle.rules.specs.Effects.{record_rule, created_by, processed_by, change_of}
@@ -18,7 +19,6 @@ use Rattle.rules.specs.declared.Action.{Action}
 use Rattle.rules.specs.declared.Effect.{Effect}
 use Rattle.rules.specs.declared.Counts.{Counts}
 use Rattle.rules.specs.declared.Change.{Change}
-use Rattle.rules.specs.declared.Effect.TheVariants.{Refused}
 use Rattle.steps.specs.declared.found.Found.{Found}
 use Rattle.steps.specs.declared.places.Places.{Places}
 
@@ -32,8 +32,8 @@ pub record FoundAt (b : Sheet) (at : Places) (f : Found) : Type 0 where
   pub delay : f.delay ≡ b.delay
 
 -- the bracket of a step on a sound board, then what its effect leaves; p is the unit's parent
-abbrev pub effect_on : ℕ → ℕ → ℕ → ℕ → StepRecord → UnitRecord → ℕ → Slot → ℕ → Action → Effect
-effect_on n m debt delay r x p y made a = judge Refused (place_checks n m r a) (record_rule debt delay r x p y made a)
+abbrev pub effect_on : ℕ → ℕ → ℕ → ℕ → StepRecord → UnitRecord → ℕ → Slot → ℕ → Action → Result Effect Refusal
+effect_on n m debt delay r x p y made a = judge Err (place_checks n m r a) (record_rule debt delay r x p y made a)
 
 -- the counts after an accepted step; a full count, which no accepted step raises, stays
 abbrev pub counted_up : Counts → Slot → Action → Counts

@@ -1,16 +1,15 @@
 // A step on a board that is known to be sound: what it would answer, and the board advanced where it is.
-ghost use Rattle.std.specs.Prelude.{◌≡◌, ◌≤◌, true, ◌&&◌, eqb};
+ghost use Rattle.std.specs.Prelude.{◌≡◌, ◌≤◌, true, ◌&&◌, is_ok};
 ghost use Rattle.rules.specs.Actions.{action_of, is_action};
 ghost use Rattle.rules.specs.Sound.{sound};
 ghost use Rattle.rules.specs.Steps.{step};
 ghost use Rattle.rules.specs.declared.Action.TheVariants.{Start};
 ghost use Rattle.steps.specs.Changing.{stored_on};
 
-use crate::action;
 use crate::found::Found;
 use crate::places::Places;
-use board::no_round;
-use rules::{Action, Board, Change, StepRecord};
+use refusals::Refusal;
+use rules::{Action, Board, Change, NO_ROUND, StepRecord};
 
 // What a step would change, and where.
 fn change_on(b: &Board, r: StepRecord) -> (Places, Change)
@@ -18,20 +17,20 @@ fn change_on(b: &Board, r: StepRecord) -> (Places, Change)
     ensures places { (result.0.unit ≤ 63) × (result.0.slot ≤ 255) }
     ensures change { step b.now r ≡ stored_on b.now (action_of r.kind) result.0 result.1 }
 {
-    let a = action(r.kind);
+    let a = Action::from(r.kind);
     let at = Places::of(b, r, a);
     (at, Found::at(b, at).change(b.n, b.m, r, a))
 }
 
 // Whether the step drops the counting rounds: an accepted start.
-fn drops_rounds(answer: u16, kind: u16) -> bool
-    ensures { result ≡ (eqb answer 0 && is_action Start (action_of kind)) }
+fn drops_rounds(answer: Result<(), Refusal>, a: Action) -> bool
+    ensures { result ≡ (is_ok answer && is_action Start a) }
 {
-    answer == 0 && matches!(action(kind), Action::Start)
+    answer.is_ok() && a == Action::Start
 }
 
 // What a step would answer.
-pub(crate) fn answer_on(b: &Board, r: StepRecord) -> u16
+pub(crate) fn answer_on(b: &Board, r: StepRecord) -> Result<(), Refusal>
     requires { sound b.now ≡ true }
     ensures { result ≡ (step b.now r).answer }
 {
@@ -39,7 +38,7 @@ pub(crate) fn answer_on(b: &Board, r: StepRecord) -> u16
 }
 
 // The step. What it may change is read, changed and stored on each way alike.
-pub(crate) fn advance(b: &mut Board, r: StepRecord) -> u16
+pub(crate) fn advance(b: &mut Board, r: StepRecord) -> Result<(), Refusal>
     requires { sound b.old ≡ true }
     ensures { step b.old r ≡ record { answer = result; board = b.new } }
 {
@@ -50,8 +49,8 @@ pub(crate) fn advance(b: &mut Board, r: StepRecord) -> u16
     b.created[at.unit] = c.counts.created;
     b.processed[at.unit] = c.counts.processed;
     b.debt = c.debt;
-    if drops_rounds(c.answer, r.kind) {
-        b.rounds = no_round();
+    if drops_rounds(c.answer, Action::from(r.kind)) {
+        b.rounds = NO_ROUND;
     }
     c.answer
 }

@@ -5,6 +5,7 @@ ghost use Rattle.steps.specs.AnswersOn.{answers_on};
 
 use crate::advancing::answer_on;
 use board::is_sound;
+use refusals::{Refusal, number_of};
 use rules::{BATCH, Board, StepRecord};
 
 // What each of the first `count` steps answers on this board, none of them taken; soundness is tested once for all of them. All of them
@@ -15,7 +16,12 @@ pub fn answers_on(b: Board, steps: [StepRecord; BATCH], count: usize) -> [u16; B
     let sound = is_sound(b);
     let mut answers = [0u16; BATCH];
     for (i, r) in steps[..count.min(BATCH)].iter().enumerate() {
-        answers[i] = if sound { answer_on(&b, *r) } else { 30 };
+        let answer = if sound {
+            answer_on(&b, *r)
+        } else {
+            Err(Refusal::NotSound)
+        };
+        answers[i] = number_of(answer);
     }
     answers
 }

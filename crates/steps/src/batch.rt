@@ -6,7 +6,8 @@ ghost use Rattle.rules.specs.Runs.{batch, batch_steps};
 
 use crate::advancing::advance;
 use board::is_sound;
-use rules::{BATCH, Batch, Board, Ran, StepRecord};
+use refusals::{Refusal, number_of};
+use rules::{BATCH, Batch, Board, StepRecord};
 
 // The first `count` steps, or all of them where `count` is larger; soundness is tested once for all of them.
 pub fn run_batch(mut b: Board, steps: [StepRecord; BATCH], count: usize) -> Batch
@@ -17,7 +18,7 @@ pub fn run_batch(mut b: Board, steps: [StepRecord; BATCH], count: usize) -> Batc
     let mut debts = [0u64; BATCH];
     if !is_sound(b) {
         return Batch {
-            ran: Ran::Refused(30),
+            ran: Err(Refusal::NotSound),
             board: b,
             answers,
             debts,
@@ -26,12 +27,12 @@ pub fn run_batch(mut b: Board, steps: [StepRecord; BATCH], count: usize) -> Batc
     let mut zeros: usize = 0;
     for (i, r) in steps[..count.min(BATCH)].iter().enumerate() {
         let answer = advance(&mut b, *r);
-        answers[i] = answer;
+        answers[i] = number_of(answer);
         debts[i] = b.debt;
-        zeros += usize::from(answer == 0);
+        zeros += usize::from(answer.is_ok());
     }
     Batch {
-        ran: Ran::Zeros(zeros),
+        ran: Ok(zeros),
         board: b,
         answers,
         debts,

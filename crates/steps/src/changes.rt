@@ -1,30 +1,28 @@
 // What a step changes, from what it finds alone.
-ghost use Rattle.std.specs.Prelude.{◌≡◌, cond, eqb};
+ghost use Rattle.std.specs.Prelude.{◌≡◌};
 ghost use Rattle.rules.specs.Effects.{change_of};
-ghost use Rattle.rules.specs.declared.Effect.TheVariants.{Refused};
-ghost use Rattle.steps.specs.Changing.{change_at};
+ghost use Rattle.steps.specs.Changing.{effect_on, change_at};
 
 use crate::found::Found;
-use crate::places::place_refusal;
+use crate::places::in_use;
+use refusals::Refusal;
 use rules::{Action, Change, Counts, Effect, StepRecord};
 
-// The effect, unless the place was refused.
-fn unless_refused(k: u16, e: Effect) -> Effect
-    ensures { result ≡ cond (eqb k 0) e (Refused k) }
-{
-    if k == 0 {
-        return e;
-    }
-    Effect::Refused(k)
-}
-
 impl Found {
+    // The effect of a step on a board with n units and m slots.
+    fn effect_on(self, n: u16, m: u16, r: StepRecord, a: Action) -> Result<Effect, Refusal>
+        ensures { result ≡ effect_on n m self.debt self.delay r self.unit self.parent self.slot self.counts.created a }
+    {
+        in_use(n, m, r, a)?;
+        self.effect(r, a)
+    }
+
     // What an effect leaves; the counts of an accepted step are given.
-    fn change_of(self, e: Effect, counts: Counts) -> Change
+    fn change_of(self, e: Result<Effect, Refusal>, counts: Counts) -> Change
         ensures { result ≡ change_of e self.unit self.parent self.slot self.debt self.counts counts }
     {
         let kept = Change {
-            answer: 0,
+            answer: Ok(()),
             parent: self.parent,
             debt: self.debt,
             unit: self.unit,
@@ -32,20 +30,20 @@ impl Found {
             counts,
         };
         match e {
-            Effect::Refused(answer) => Change {
-                answer,
+            Err(refusal) => Change {
+                answer: Err(refusal),
                 counts: self.counts,
                 ..kept
             },
-            Effect::OnUnit(unit, debt) => Change { unit, debt, ..kept },
-            Effect::OnSlot(slot, debt) => Change { slot, debt, ..kept },
-            Effect::OnBoth(unit, slot, debt) => Change {
+            Ok(Effect::OnUnit(unit, debt)) => Change { unit, debt, ..kept },
+            Ok(Effect::OnSlot(slot, debt)) => Change { slot, debt, ..kept },
+            Ok(Effect::OnBoth(unit, slot, debt)) => Change {
                 unit,
                 slot,
                 debt,
                 ..kept
             },
-            Effect::OnParent(parent) => Change { parent, ..kept },
+            Ok(Effect::OnParent(parent)) => Change { parent, ..kept },
         }
     }
 
@@ -53,9 +51,6 @@ impl Found {
     pub(crate) fn change(self, n: u16, m: u16, r: StepRecord, a: Action) -> Change
         ensures { result ≡ change_at n m self.debt self.delay r self.unit self.parent self.slot self.counts a }
     {
-        // side by side, so that the compiler parts the actions once for both
-        let e = self.effect(r, a);
-        let counts = self.counted_up(a);
-        self.change_of(unless_refused(place_refusal(n, m, r, a), e), counts)
+        self.change_of(self.effect_on(n, m, r, a), self.counted_up(a))
     }
 }

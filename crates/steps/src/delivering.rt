@@ -2,11 +2,11 @@
 ghost use Rattle.std.specs.Prelude.{◌≡◌};
 ghost use Rattle.rules.specs.Facts.{judge};
 ghost use Rattle.rules.specs.Effects.{deliver_checks, worked, returned, return_effect, deliver_effect};
-ghost use Rattle.rules.specs.declared.Effect.TheVariants.{Refused};
 
 use crate::found::Found;
-use crate::made::{BLANK_SLOT, waiting_with};
-use rules::{Effect, Kind, State, UnitRecord};
+use crate::made::waiting_with;
+use refusals::Refusal;
+use rules::{BLANK_SLOT, Effect, Kind, State, UnitRecord};
 
 impl Found {
     // The receiver of work, which becomes active; a suspended one stays so.
@@ -46,15 +46,15 @@ impl Found {
         Effect::OnBoth(self.returned(), BLANK_SLOT, self.debt)
     }
 
-    pub(crate) fn deliver(self) -> Effect
-        ensures { result ≡ judge Refused (deliver_checks self.debt self.slot) (deliver_effect self.debt self.delay self.unit self.slot self.slot.kind) }
+    pub(crate) fn deliver(self) -> Result<Effect, Refusal>
+        ensures { result ≡ judge Err (deliver_checks self.debt self.slot) (deliver_effect self.debt self.delay self.unit self.slot self.slot.kind) }
     {
         match self.slot.kind {
-            Kind::Empty => Effect::Refused(35),
-            Kind::Work => Effect::OnBoth(self.worked(), BLANK_SLOT, self.debt),
-            Kind::Return => self.take_return(),
+            Kind::Empty => Err(Refusal::SlotEmpty),
+            Kind::Work => Ok(Effect::OnBoth(self.worked(), BLANK_SLOT, self.debt)),
+            Kind::Return => Ok(self.take_return()),
             Kind::Request => self.granted(),
-            Kind::Supply => Effect::OnBoth(self.supplied(), BLANK_SLOT, self.debt),
+            Kind::Supply => Ok(Effect::OnBoth(self.supplied(), BLANK_SLOT, self.debt)),
         }
     }
 }

@@ -5,6 +5,7 @@ ghost use Rattle.rules.specs.Letters.{slot_of, unit_by, place_checks};
 ghost use Rattle.rules.specs.Boards.{view};
 ghost use Rattle.rules.specs.Sheets.Sheet.{slot_at};
 
+use refusals::Refusal;
 use rules::{Action, Board, StepRecord};
 
 // Indices of the unit and of the slot that a step may change.
@@ -53,31 +54,36 @@ impl Places {
     }
 }
 
-// The number where i is not below its limit, else what comes next.
-fn checked(i: u16, limit: u16, number: u16, next: u16) -> u16
-    ensures { result ≡ judge (λ j. j) (check (below i limit) number ∷ []) next }
+// What i names is to be below its limit, or the refusal is this one.
+fn below(i: u16, limit: u16, by: Refusal) -> Result<(), Refusal>
+    ensures { result ≡ judge Err (check (below i limit) by ∷ []) (Ok tt) }
 {
     if i < limit {
-        return next;
+        return Ok(());
     }
-    number
+    Err(by)
 }
 
-// The head of each bracket: 0, or the number that refuses the unit, the slot or a move's parent, which is to be below the unit (M-108).
-pub(crate) fn place_refusal(n: u16, m: u16, r: StepRecord, a: Action) -> u16
-    ensures { result ≡ judge (λ j. j) (place_checks n m r a) 0 }
+// The head of each bracket: it refuses the unit, the slot or a move's parent, which is to be below the unit (M-108).
+pub(crate) fn in_use(n: u16, m: u16, r: StepRecord, a: Action) -> Result<(), Refusal>
+    ensures { result ≡ judge Err (place_checks n m r a) (Ok tt) }
 {
     match a {
-        Action::Unknown => 0,
-        Action::Start | Action::Rest | Action::Tick => checked(r.unit, n, 13, 0),
-        Action::Send => checked(
-            r.unit,
-            n,
-            13,
-            checked(r.other, n, 13, checked(r.slot, m, 14, 0)),
-        ),
-        Action::Request | Action::Release => checked(r.unit, n, 13, checked(r.slot, m, 14, 0)),
-        Action::Deliver => checked(r.slot, m, 14, 0),
-        Action::Move => checked(r.unit, n, 13, checked(r.other, r.unit, 47, 0)),
+        Action::Unknown => Ok(()),
+        Action::Start | Action::Rest | Action::Tick => below(r.unit, n, Refusal::NoSuchUnit),
+        Action::Send => {
+            below(r.unit, n, Refusal::NoSuchUnit)?;
+            below(r.other, n, Refusal::NoSuchUnit)?;
+            below(r.slot, m, Refusal::NoSuchSlot)
+        }
+        Action::Request | Action::Release => {
+            below(r.unit, n, Refusal::NoSuchUnit)?;
+            below(r.slot, m, Refusal::NoSuchSlot)
+        }
+        Action::Deliver => below(r.slot, m, Refusal::NoSuchSlot),
+        Action::Move => {
+            below(r.unit, n, Refusal::NoSuchUnit)?;
+            below(r.other, r.unit, Refusal::ParentNotLower)
+        }
     }
 }

@@ -3,16 +3,17 @@ ghost use Rattle.std.specs.Prelude.{◌≡◌};
 ghost use Rattle.rules.specs.Effects.{record_rule};
 
 use crate::found::Found;
+use refusals::Refusal;
 use rules::{Action, Effect, StepRecord};
 
 impl Found {
     // What a step does where its places are in use.
     #[tactic(auto, unfolding(rules::specs::Effects::record_rule))]
-    pub(crate) fn effect(self, r: StepRecord, a: Action) -> Effect
+    pub(crate) fn effect(self, r: StepRecord, a: Action) -> Result<Effect, Refusal>
         ensures { result ≡ record_rule self.debt self.delay r self.unit self.parent self.slot self.counts.created a }
     {
         match a {
-            Action::Unknown => Effect::Refused(16),
+            Action::Unknown => Err(Refusal::NoSuchKind),
             Action::Start => self.start(),
             Action::Send => self.send(r),
             Action::Request => self.request(r),
@@ -20,7 +21,7 @@ impl Found {
             Action::Rest => self.rest(r),
             Action::Tick => self.tick(),
             Action::Release => self.release(r),
-            Action::Move => Effect::OnParent(r.other),
+            Action::Move => Ok(Effect::OnParent(r.other)),
         }
     }
 }

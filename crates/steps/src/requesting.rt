@@ -3,27 +3,28 @@ ghost use Rattle.std.specs.Prelude.{◌≡◌, ◌+◌};
 ghost use Rattle.rules.specs.Facts.{judge};
 ghost use Rattle.rules.specs.Records.{grant};
 ghost use Rattle.rules.specs.declared.Kind.TheVariants.{Request, Supply};
-ghost use Rattle.rules.specs.declared.Effect.TheVariants.{OnSlot, Refused};
+ghost use Rattle.rules.specs.declared.Effect.TheVariants.{OnSlot};
 ghost use Rattle.rules.specs.Effects.{message, request_checks, request_effect, grant_fits, supplied};
 
 use crate::found::Found;
+use refusals::Refusal;
 use rules::{CEILING, Effect, GRANT, Kind, Slot, StepRecord, UnitRecord};
 
 impl Found {
-    pub(crate) fn request(self, r: StepRecord) -> Effect
-        ensures { result ≡ judge Refused (request_checks self.unit self.slot) (request_effect self.debt r.unit self.unit) }
+    pub(crate) fn request(self, r: StepRecord) -> Result<Effect, Refusal>
+        ensures { result ≡ judge Err (request_checks self.unit self.slot) (Ok (request_effect self.debt r.unit self.unit)) }
     {
         if !self.unit.state.is_active() {
-            return Effect::Refused(31);
+            return Err(Refusal::NotActive);
         }
         if self.unit.suspended {
-            return Effect::Refused(32);
+            return Err(Refusal::Suspended);
         }
         if self.unit.weight > 1 {
-            return Effect::Refused(41);
+            return Err(Refusal::CanShare);
         }
         if !self.slot.kind.is_empty() {
-            return Effect::Refused(34);
+            return Err(Refusal::SlotFilled);
         }
         let asking = UnitRecord {
             suspended: true,
@@ -35,15 +36,15 @@ impl Found {
             to: 0,
             kind: Kind::Request,
         };
-        Effect::OnBoth(asking, request, self.debt)
+        Ok(Effect::OnBoth(asking, request, self.debt))
     }
 
     // A request delivered: the slot becomes the supply to its sender, and the debt grows at once, not when the supply arrives.
-    pub(crate) fn granted(self) -> Effect
-        ensures { result ≡ judge Refused (grant_fits self.debt Request) (OnSlot (message Supply 0 self.slot.from grant) (self.debt + grant)) }
+    pub(crate) fn granted(self) -> Result<Effect, Refusal>
+        ensures { result ≡ judge Err (grant_fits self.debt Request) (Ok (OnSlot (message Supply 0 self.slot.from grant) (self.debt + grant))) }
     {
         if self.debt + GRANT > CEILING {
-            return Effect::Refused(36);
+            return Err(Refusal::PastCeiling);
         }
         let supply = Slot {
             weight: GRANT,
@@ -51,7 +52,7 @@ impl Found {
             to: self.slot.from,
             kind: Kind::Supply,
         };
-        Effect::OnSlot(supply, self.debt + GRANT)
+        Ok(Effect::OnSlot(supply, self.debt + GRANT))
     }
 
     // The receiver of a supply, whose suspension ends.

@@ -2,49 +2,46 @@
 ghost use Rattle.std.specs.Prelude.{◌≡◌};
 ghost use Rattle.rules.specs.Facts.{judge};
 ghost use Rattle.rules.specs.Effects.{start_checks, start_effect, send_checks, send_effect};
-ghost use Rattle.rules.specs.declared.Effect.TheVariants.{Refused};
 
 use crate::found::Found;
-use rules::{Effect, FULL, GRANT, Kind, Slot, State, StepRecord, UnitRecord};
+use refusals::Refusal;
+use rules::{BLANK_UNIT, Effect, FULL, GRANT, Kind, Slot, State, StepRecord, UnitRecord};
 
 impl Found {
-    pub(crate) fn start(self) -> Effect
-        ensures { result ≡ judge Refused (start_checks self.debt self.counts.created) start_effect }
+    pub(crate) fn start(self) -> Result<Effect, Refusal>
+        ensures { result ≡ judge Err (start_checks self.debt self.counts.created) (Ok start_effect) }
     {
         if self.debt != 0 {
-            return Effect::Refused(37);
+            return Err(Refusal::DebtLeft);
         }
         if self.counts.created >= FULL {
-            return Effect::Refused(44);
+            return Err(Refusal::CountFull);
         }
-        Effect::OnUnit(
-            UnitRecord {
-                weight: GRANT,
-                countdown: 0,
-                state: State::Active,
-                suspended: false,
-            },
-            GRANT,
-        )
+        let started = UnitRecord {
+            weight: GRANT,
+            state: State::Active,
+            ..BLANK_UNIT
+        };
+        Ok(Effect::OnUnit(started, GRANT))
     }
 
-    pub(crate) fn send(self, r: StepRecord) -> Effect
-        ensures { result ≡ judge Refused (send_checks self.unit self.slot self.counts.created) (send_effect self.debt r.unit r.other self.unit) }
+    pub(crate) fn send(self, r: StepRecord) -> Result<Effect, Refusal>
+        ensures { result ≡ judge Err (send_checks self.unit self.slot self.counts.created) (Ok (send_effect self.debt r.unit r.other self.unit)) }
     {
         if !self.unit.state.is_active() {
-            return Effect::Refused(31);
+            return Err(Refusal::NotActive);
         }
         if self.unit.suspended {
-            return Effect::Refused(32);
+            return Err(Refusal::Suspended);
         }
         if self.unit.weight < 2 {
-            return Effect::Refused(33);
+            return Err(Refusal::TooLight);
         }
         if !self.slot.kind.is_empty() {
-            return Effect::Refused(34);
+            return Err(Refusal::SlotFilled);
         }
         if self.counts.created >= FULL {
-            return Effect::Refused(44);
+            return Err(Refusal::CountFull);
         }
         let shared = self.unit.share();
         let work = Slot {
@@ -53,6 +50,6 @@ impl Found {
             to: r.other,
             kind: Kind::Work,
         };
-        Effect::OnBoth(shared.unit, work, self.debt)
+        Ok(Effect::OnBoth(shared.unit, work, self.debt))
     }
 }

@@ -4,7 +4,7 @@ use Rattle.steps.proofs.Changing.{rounds_left}
 use Rattle.steps.proofs.advancing.advance.Goals as goal
 
 pub returns-then-drops_rounds : goal.returns-then-drops_rounds
-returns-then-drops_rounds c = rounds_left _ _ _ _ c.change_on.ensures.change _ true _ c.drops_rounds.ensures c.if-drops_rounds.true (sym c.no_round-b.ensures)
+returns-then-drops_rounds c = rounds_left _ _ _ _ c.change_on.ensures.change _ true _ c.drops_rounds.ensures c.if-drops_rounds.true refl
 
 pub returns-else-drops_rounds : goal.returns-else-drops_rounds
 returns-else-drops_rounds c = rounds_left _ _ _ _ c.change_on.ensures.change _ false _ c.drops_rounds.ensures c.if-drops_rounds.false refl

@@ -1,4 +1,5 @@
 -- A turn writes the answer of its step, which takes the step off what is left.
+use Rattle.refusals.specs.Numbers.{number_of}
 use Rattle.std.proofs.Common.{arith, rules, List, ◌≡◌, ◌≤◌, sym, ap, ◌∙◌, length, length-take, take, slice_index_or}
 use Rattle.rules.specs.Steps.{step}
 use Rattle.rules.specs.Runs.{padded}
@@ -15,12 +16,12 @@ pub loop-i-preserved : goal.loop-i-preserved
 loop-i-preserved c =
     let asked = take c.min.result c.args.steps in
     let r = slice_index_or asked c.loop-i.i no_step in
-    let answered : c.if-sound.answers ≡ (step c.args.b r).answer =
+    let answered : c.if-sound.answer ≡ (step c.args.b r).answer =
     elim c.if-sound.branch [
-      | then-sound w ↦ w.answers-is ∙ w.answer_on.ensures
-      | else-sound w ↦ w.answers-is ∙ (unsound_meets c.args.b r (sym c.is_sound-sound.ensures ∙ w.if-sound.false)).answer
+      | then-sound w ↦ w.answer-is ∙ w.answer_on.ensures
+      | else-sound w ↦ w.answer-is ∙ (unsound_meets c.args.b r (sym c.is_sound-sound.ensures ∙ w.if-sound.false)).answer
     ] in
-    told_turn c.args.b asked c.loop-i.i c.loop-i.answers c.if-sound.answers c.loop-i-test.true answered ∙ c.loop-i.invariant
+    told_turn c.args.b asked c.loop-i.i c.loop-i.answers _ c.loop-i-test.true (c.number_of.ensures ∙ ap number_of answered) ∙ c.loop-i.invariant
 
 pub returns : goal.returns
 returns c =

@@ -2,7 +2,7 @@
 use Rattle.std.proofs.Common.{rules, arith, ◌≡◌, ◌≤◌, sym, ap, ◌∙◌, length, length-take, take}
 use Rattle.rules.specs.Runs.{batch}
 use Rattle.steps.proofs.BatchLaws.{turned, ended, asked_steps, filled_batch, unsound_batch, batch_carries}
-use Rattle.rules.specs.declared.Ran.TheVariants.{Zeros}
+use Rattle.std.specs.Prelude.{Ok}
 use Rattle.steps.proofs.batch.run_batch.Goals as goal
 
 pub returns-then-not-is_sound-clause-value : goal.returns-then-not-is_sound-clause-value
@@ -15,7 +15,7 @@ pub loop-i-preserved : goal.loop-i-preserved
 loop-i-preserved c = turned _ _ _ _ _ _ _ c.loop-i.invariant _ _ _ c.loop-i-test.true c.advance-answer.ensures c.from-zeros.ensures
 
 -- what the loop leaves is the batch
-made : (c : goal.After-loop-i) → record { ran = Zeros c.loop-i.zeros; board = c.loop-i.b; answers = c.loop-i.answers; debts = c.loop-i.debts } ≡ batch c.args.b (take c.args.count c.args.steps)
+made : (c : goal.After-loop-i) → record { ran = Ok c.loop-i.zeros; board = c.loop-i.b; answers = c.loop-i.answers; debts = c.loop-i.debts } ≡ batch c.args.b (take c.args.count c.args.steps)
 made c =
     let few : length (take c.min.result c.args.steps) ≤ 512 = omega (arith, length-take c.min.result c.args.steps, c.min.ensures) in
     ended _ _ _ _ _ _ _ c.loop-i.invariant c.loop-i-test.false ∙ filled_batch c.args.b (take c.min.result c.args.steps) (sym c.is_sound.ensures ∙ c.if-not-is_sound.false) few ∙ ap (batch c.args.b) (asked_steps c.args.steps c.args.count c.min.result (search rules) c.min.ensures)

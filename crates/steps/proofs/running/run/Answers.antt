@@ -2,7 +2,7 @@
 use Rattle.std.proofs.Common.{sym, ◌∙◌}
 use Rattle.steps.proofs.BatchLaws.{turned, ended}
 use Rattle.steps.proofs.RunLaws.{run_unsound, run_short, run_whole}
-use Rattle.steps.proofs.lent.run.Goals as goal
+use Rattle.steps.proofs.running.run.Goals as goal
 
 pub returns-then-not-is_sound : goal.returns-then-not-is_sound
 returns-then-not-is_sound c = run_unsound _ _ _ (sym c.is_sound.ensures ∙ c.if-not-is_sound.true)
