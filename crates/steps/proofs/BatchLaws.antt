@@ -84,14 +84,14 @@ ok_is_zero (Err k) = sym (ne_eqb (number k) 0 (refused_above_zero k))
 
 module _ (whole : Batch) (rs : List StepRecord) (b : Board) (z i : ℕ) (ks ds : List ℕ) (turn : Turn whole rs b z i ks ds) where
   -- the turn of the step at place i, with its answer and its debt stored, and counted as the code counts
-  pub turned : (c : Board) (k : Result (Unit {0}) Refusal) (n : ℕ) → i < length rs → step b (get_or rs i no_step) ≡ record { answer = k; board = c } → n ≡ from_bool (is_ok k)
-      → Turn whole rs c (z + n) (i + 1) (set ks i (number_of k)) (set ds i c.debt)
-  turned c k n l e f =
+  pub turned : (c : Board) (k : Result (Unit {0}) Refusal) (j n : ℕ) → i < length rs → step b (get_or rs i no_step) ≡ record { answer = k; board = c } → j ≡ number_of k → n ≡ from_bool (is_ok k)
+      → Turn whole rs c (z + n) (i + 1) (set ks i j) (set ds i c.debt)
+  turned c k j n l e q f =
       let g : n ≡ one_if (eqb (number_of k) 0) = f ∙ ap from_bool (ok_is_zero k) ∙ counted (eqb (number_of k) 0) in
       record {
         few = omega (arith, g, one_at_most (eqb (number_of k) 0), turn.few);
         is_sound = subst (λ (o : Outcome). sound o.board ≡ true) e (sound_tested _ (step_keeps_sound b (get_or rs i no_step) (sound_claims b turn.is_sound)));
-        gives = ap (λ (m : ℕ). filled c (drop (i + 1) rs) (z + m) (i + 1) (set ks i (number_of k)) (set ds i c.debt)) g ∙ filled_turn rs b z i ks ds (record { answer = k; board = c }) l e ∙ turn.gives;
+        gives = (λ t. filled c (drop (i + 1) rs) (z + g t) (i + 1) (set ks i (q t)) (set ds i c.debt)) ∙ filled_turn rs b z i ks ds (record { answer = k; board = c }) l e ∙ turn.gives;
       }
 
   pub ended : length rs ≤ i → record { ran = Ok z; board = b; answers = ks; debts = ds } ≡ whole

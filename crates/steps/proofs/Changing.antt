@@ -4,9 +4,8 @@ use mathlib.Core.Bool.{Bool, true, cond, ◌&&◌}
 use mathlib.Core.List.{List, ◌++◌}
 use Prim.Native.Nat.{ℕ, ◌+◌, ◌≤◌, ◌<◌, ◌^◌, min}
 use native.Mathlib.Omega.{arith}
-use lib.Dec.{eqb}
 use Rattle.refusals.specs.declared.Refusal.{Refusal}
-use Rattle.std.specs.Prelude.{Result, Ok, Err, is_ok}
+use Rattle.std.specs.Prelude.{Result, Err, is_ok}
 use Rattle.rules.specs.Facts.{Claims, Check, judge}
 use Rattle.rules.specs.Records.{full}
 use Rattle.rules.specs.declared.UnitRecord.{UnitRecord}
@@ -30,15 +29,21 @@ use Rattle.rules.specs.Boards.{view, board_of}
 use Rattle.rules.specs.Sound.{Sound, sound}
 use Rattle.rules.specs.Steps.{on_board, sound_step, step}
 use Rattle.rules.proofs.FactLaws.{asked, fact_shown}
-use Rattle.rules.proofs.JudgeLaws.{judge_map, judge_same, judge_append}
+use Rattle.rules.proofs.JudgeLaws.{checks_answer, answered, judge_by_answer, judge_map, judge_same, judge_append}
 use Rattle.rules.proofs.SumLaws.{sum_part, sum_most}
 use Rattle.rules.proofs.SoundLaws.{sound_claims}
 use Rattle.rules.proofs.Sheets.SoundLaws.{created_most}
 use Rattle.rules.proofs.Views.{step_sound}
 use Rattle.steps.specs.declared.found.Found.{Found}
 use Rattle.steps.specs.declared.places.Places.{Places}
-use Rattle.steps.specs.Changing.{FoundAt, counted_up, change_at, stored_on}
+use Rattle.steps.specs.Changing.{FoundAt, effect_on, counted_up, change_at, stored_on}
 use Rattle.steps.proofs.Clamping.{clamped_step}
+
+-- ---- where the places are refused, the effect is
+pub refused_first : (n m debt delay : ℕ) (r : StepRecord) (x : UnitRecord) (p : ℕ) (y : Slot) (made : ℕ) (a : Action) (k : Refusal) → Err k ≡ checks_answer (place_checks n m r a) → Err k ≡ effect_on n m debt delay r x p y made a
+refused_first n m debt delay r x p y made a k e =
+    let rule : Result Effect Refusal = record_rule debt delay r x p y made a in
+    ap (answered (λ j. Err j) rule) e ∙ sym (judge_by_answer (λ j. Err j) (place_checks n m r a) rule)
 
 -- ---- counts: where the whole bracket holds, no full count is to grow
 -- a judged effect changes alike with counts that are the same where its checks hold

@@ -18,7 +18,7 @@ loop-i-preserved c =
     let r = slice_index_or asked c.loop-i.i no_step in
     let answered : c.if-sound.answer ≡ (step c.args.b r).answer =
     elim c.if-sound.branch [
-      | then-sound w ↦ w.answer-is ∙ w.answer_on.ensures
+      | then-sound w ↦ w.answer-is ∙ w.answer_on-answer.ensures
       | else-sound w ↦ w.answer-is ∙ (unsound_meets c.args.b r (sym c.is_sound-sound.ensures ∙ w.if-sound.false)).answer
     ] in
     told_turn c.args.b asked c.loop-i.i c.loop-i.answers _ c.loop-i-test.true (c.number_of.ensures ∙ ap number_of answered) ∙ c.loop-i.invariant
