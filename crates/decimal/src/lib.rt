@@ -67,7 +67,7 @@ fn spell_in(n: u64, digits: &mut [u8])
 }
 
 // A number in digits at a place of a buffer, or 27 and the buffer as it was.
-#[tactic(auto, using(placing::proofs::Stores::put_part, crate::proofs::SpellLaws::spelled_length, crate::proofs::CountLaws::count_most,), unfolding(placing::specs::Placing::wrote, placing::specs::Placing::written),)]
+#[tactic(auto, using(placing::proofs::Stores::put_part, crate::proofs::SpellLaws::spelled_length, crate::proofs::CountLaws::count_most), unfolding(placing::specs::Placing::wrote, placing::specs::Placing::written))]
 pub fn put_number(n: u64, out: &mut [u8], at: usize) -> Result<usize, Refusal>
     ensures { Writes (spelled n) at out.old result out.new }
 {
@@ -78,7 +78,7 @@ pub fn put_number(n: u64, out: &mut [u8], at: usize) -> Result<usize, Refusal>
 }
 
 // A tab and a number behind it: both are written, or neither.
-#[tactic(auto, using(placing::proofs::Stores::put_behind, crate::proofs::SpellLaws::spelled_length, crate::proofs::CountLaws::count_most,), unfolding(placing::specs::Placing::wrote, placing::specs::Placing::written),)]
+#[tactic(auto, using(placing::proofs::Stores::put_behind, crate::proofs::SpellLaws::spelled_length, crate::proofs::CountLaws::count_most), unfolding(placing::specs::Placing::wrote, placing::specs::Placing::written))]
 pub fn put_tabbed_number(n: u64, out: &mut [u8], at: usize) -> Result<usize, Refusal>
     ensures { Writes (tab ∷ spelled n) at out.old result out.new }
 {
