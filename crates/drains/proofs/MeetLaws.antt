@@ -1,13 +1,16 @@
 -- The calls meet what is claimed of them, for any list: where steps are told, the first entries are a longest drain; where the call is refused, no turn is taken.
 use mathlib.Core.Path.{◌≡◌, refl, sym, ap, subst, ◌∙◌}
 use mathlib.Core.Bool.{Bool, true, false, cond}
-use mathlib.Core.List.{List, [], ◌∷◌, ◌++◌}
-use Prim.Native.Nat.{ℕ, suc, ◌≤◌, zero-le}
+use mathlib.Core.List.{List, ◌++◌}
+use Prim.Native.Nat.{ℕ, ◌≤◌}
 use native.Mathlib.Omega.{arith}
 use lib.ListN.{length, get_or, take, drop}
 use lib.Seq.{take_at}
 use lib.Dec.{eqb}
 use borrow.Author.Tests.{eqb-true}
+use Rattle.std.specs.List.{position_or_len}
+use Rattle.std.proofs.lemmas.List.{get_or_past}
+use Rattle.std.proofs.lemmas.List.Sums.{passes_at_first}
 use Rattle.rules.specs.Facts.{Claims, judge}
 use Rattle.rules.specs.Records.{is_empty, blank_slot}
 use Rattle.rules.specs.declared.Kind.TheVariants.{Empty}
@@ -15,31 +18,32 @@ use Rattle.rules.specs.declared.Slot.{Slot}
 use Rattle.rules.specs.declared.Board.{Board}
 use Rattle.rules.specs.declared.StepRecord.{StepRecord}
 use Rattle.rules.specs.Boards.{view}
+use Rattle.rules.specs.Sound.{Sound}
 use Rattle.rules.specs.Sheets.Longest.{longest_length}
 use Rattle.rules.specs.Longest.{LongestDrain, ListIsLongest}
 use Rattle.rules.proofs.FactLaws.{asked}
 use Rattle.rules.proofs.JudgeLaws.{refusal_number, judge_by_number, number_claims}
 use Rattle.rules.proofs.SoundLaws.{sound_claims}
 use Rattle.rules.proofs.Sheets.EntryLaws.{empty_is}
+use Rattle.rules.proofs.Sheets.SoundLaws.{below_or_not}
 use Rattle.rules.proofs.BusyLaws.{quiet_told}
 use Rattle.rules.proofs.LongestTheorem.{list_is_longest}
 use Rattle.drains.specs.Calls.{lowest_free, drain_checks, list_checks, list_answer, shown_list, list_left}
 use Rattle.drains.specs.Claims.{ListMeets}
-use Rattle.drains.specs.Legs.{course, StaysInTable, Plans, drain_turns}
 use Rattle.drains.specs.declared.Longest.{Longest}
 use Rattle.drains.specs.declared.Longest.TheVariants.{Steps, Refused}
-use Rattle.drains.specs.declared.legs.Plan.{Plan}
-use Rattle.drains.proofs.CheckLaws.{length_told}
+
+-- as many steps as are told
+abbrev pub steps_told : Longest → ℕ
+steps_told (Steps k) = k
+steps_told (Refused k) = 0
 
 -- ---- the lowest free slot is empty, and so is a slot past the end
 lowest_empty : (ys : List Slot) → (get_or ys (lowest_free ys) blank_slot).kind ≡ Empty
 unfolding lowest_free
-lowest_empty [] = refl
-lowest_empty (y ∷ ys) = by_test (is_empty y.kind) refl (lowest_empty ys)
-  where
-    by_test : (t : Bool) → is_empty y.kind ≡ t → (get_or ys (lowest_free ys) blank_slot).kind ≡ Empty → (get_or (y ∷ ys) (cond t 0 (suc (lowest_free ys))) blank_slot).kind ≡ Empty
-    by_test true e others = empty_is y.kind e
-    by_test false e others = others
+lowest_empty ys =
+    below_or_not (position_or_len (λ y. is_empty y.kind) ys) (length ys) (λ l. empty_is _ (passes_at_first (λ y. is_empty y.kind) ys blank_slot l))
+    (λ l. ap (λ (y : Slot). y.kind) (get_or_past ys (position_or_len (λ y. is_empty y.kind) ys) blank_slot l))
 
 -- ---- where a length is told, the list that is shown is a longest drain
 pub shown_longest : (b : Board) → Claims (asked (drain_checks b)) → LongestDrain b (shown_list b)
@@ -65,34 +69,36 @@ answered b list r e = by_test (eqb (refusal_number (list_checks b (length list))
         tells (h.0, (h.1.0, (h.1.1.0, tt))) h.1.1.1.0 (e ∙ by_number Refused (Steps (longest_length (view b))) true q) (by_number (λ k. list) (shown_list b ++ drop (longest_length (view b)) list) true q)
     by_test false q = refuses (refusal_number (list_checks b (length list))) (e ∙ by_number Refused (Steps (longest_length (view b))) false q) (by_number (λ k. list) (shown_list b ++ drop (longest_length (view b)) list) false q)
 
-module _ (b : Board) (list : List StepRecord) (r : Longest) (n : ℕ) (p : Plan) (r-is : r ≡ list_answer b (length list)) (n-is : n ≡ drain_turns r) (plans : Plans b p) where
-  -- what the writing asks for
-  pub writable : (n ≤ length list) × StaysInTable n p.legs p.cursor
-  unfolding StaysInTable
-  writable = by_answer (answered b list r r-is)
+module _ (b : Board) (list : List StepRecord) (r : Longest) (r-is : r ≡ list_answer b (length list)) where
+  -- where a length is told, a drain may be written, and there is room for it
+  pub told_room : (n : ℕ) → r ≡ Steps n → Sound b × (longest_length (view b) ≤ length list)
+  told_room n q = by_answer (answered b list r r-is)
     where
-      by_answer : Answered b list r → (n ≤ length list) × StaysInTable n p.legs p.cursor
-      by_answer (tells h fits e l) =
-          subst (λ (k : ℕ). (k ≤ length list) × StaysInTable k p.legs p.cursor) (sym (n-is ∙ ap drain_turns e)) (fits, plans.within (length_told b h))
-      by_answer (refuses k e l) = subst (λ (k : ℕ). (k ≤ length list) × StaysInTable k p.legs p.cursor) (sym (n-is ∙ ap drain_turns e)) (zero-le, tt)
+      by_answer : Answered b list r → Sound b × (longest_length (view b) ≤ length list)
+      by_answer (tells h fits e l) = (sound_claims b h.0, fits)
+      by_answer (refuses k e l) = let z : ◌≡◌ {A = ℕ} 0 1 = cc in absurd (omega (arith, z))
 
-  pub list_meets : (left : List StepRecord) → left ≡ course n p.legs p.cursor ++ drop n list → ListMeets b list r left
-  unfolding course
-  list_meets left left_is = by_answer (answered b list r r-is)
+  pub told_meets : (n : ℕ) → r ≡ Steps n → (left : List StepRecord) → left ≡ shown_list b ++ drop (longest_length (view b)) list → ListMeets b list r left
+  told_meets n q left left_is = by_answer (answered b list r r-is)
     where
       by_answer : Answered b list r → ListMeets b list r left
       by_answer (tells h fits e l) =
           let shown = shown_longest b h in
-          let is : left ≡ shown_list b ++ drop (longest_length (view b)) list =
-          left_is ∙ ap (λ (k : ℕ). course k p.legs p.cursor ++ drop k list) (n-is ∙ ap drain_turns e) ∙ ap (λ (rs : List StepRecord). rs ++ drop (longest_length (view b)) list) (plans.writes (length_told b h)) in
           record {
             gives = r-is;
-            leaves = is ∙ sym l;
-            shows = λ k q. subst (LongestDrain b) (sym (take_at (shown_list b) (drop (longest_length (view b)) list) k (shown.exact ∙ ap drain_turns (sym e ∙ q))) ∙ ap (take k) (sym is)) shown;
+            leaves = left_is ∙ sym l;
+            shows = λ k p. subst (LongestDrain b) (sym (take_at (shown_list b) (drop (longest_length (view b)) list) k (shown.exact ∙ ap steps_told (sym e ∙ p))) ∙ ap (take k) (sym left_is)) shown;
           }
-      by_answer (refuses k e l) =
+      by_answer (refuses k e l) = let z : ◌≡◌ {A = ℕ} 0 1 = cc in absurd (omega (arith, z))
+
+  pub refused_meets : (k : ℕ) → r ≡ Refused k → ListMeets b list r list
+  refused_meets k q = by_answer (answered b list r r-is)
+    where
+      by_answer : Answered b list r → ListMeets b list r list
+      by_answer (tells h fits e l) = let z : ◌≡◌ {A = ℕ} 0 1 = cc in absurd (omega (arith, z))
+      by_answer (refuses j e l) =
           record {
             gives = r-is;
-            leaves = left_is ∙ ap (λ (k : ℕ). course k p.legs p.cursor ++ drop k list) (n-is ∙ ap drain_turns e) ∙ sym l;
-            shows = λ j q. let z : ◌≡◌ {A = ℕ} 0 1 = cc in absurd (omega (arith, z));
+            leaves = sym l;
+            shows = λ n p. let z : ◌≡◌ {A = ℕ} 0 1 = cc in absurd (omega (arith, z));
           }

@@ -1,5 +1,6 @@
 -- The calls that show the longest drain (M-109): what each answers, and what it leaves in the list.
-use Rattle.std.specs.Prelude.{cond, List, [], ◌∷◌, ◌++◌, ℕ, suc, length, drop, replicate}
+use Rattle.std.specs.Prelude.{List, [], ◌∷◌, ◌++◌, ℕ, length, drop, replicate}
+use Rattle.std.specs.List.{position_or_len}
 use Rattle.rules.specs.Facts.{Check, check, below, at_most, holds, fails, judge}
 use Rattle.rules.specs.Records.{is_empty}
 use Rattle.rules.specs.declared.Slot.{Slot}
@@ -17,8 +18,7 @@ use Rattle.drains.specs.declared.ShortDrain.{ShortDrain}
 
 -- the lowest free slot; the number of slots where none is free. (Entries from M on are empty, so where none in use is free, it is not below M)
 unfoldable pub lowest_free : List Slot → ℕ
-lowest_free [] = 0
-lowest_free (y ∷ ys) = cond (is_empty y.kind) 0 (suc (lowest_free ys))
+lowest_free ys = position_or_len (λ y. is_empty y.kind) ys
 
 -- 30 not sound; "48, a unit active or work under way, after 30; 49, no free slot, next"
 abbrev pub drain_checks : Board → List Check

@@ -2,11 +2,11 @@
 #![tactic(auto)]
 
 mod checks;
-mod legs;
+mod journeys;
 mod lengths;
 mod lent;
 mod short;
-mod turns;
+mod sources;
 
 ghost use Rattle.std.specs.Prelude.{◌≡◌, ℕ};
 ghost use Rattle.drains.specs.Calls.{length_answer, list_answer};
@@ -38,16 +38,16 @@ pub fn longest_length(b: Board) -> Longest
     ensures told { result ≡ length_answer b }
     ensures exact { (k : ℕ) → result ≡ Steps k → HasLength b k }
 {
-    let k = refusal(b);
+    let k = refusal(&b);
     if k != 0 {
         return Longest::Refused(k);
     }
-    Longest::Steps(length_of(b))
+    Longest::Steps(length_of(&b))
 }
 
 // The length, where a list of so many entries has room for it.
-pub(crate) fn fitting(b: Board, room: usize) -> Longest
-    ensures { result ≡ list_answer b room }
+pub(crate) fn fitting(b: &Board, room: usize) -> Longest
+    ensures { result ≡ list_answer b.now room }
 {
     let k = refusal(b);
     if k != 0 {

@@ -3,9 +3,8 @@ use Rattle.std.proofs.Common.{sym, ap, ◌∙◌, arith}
 use Rattle.rules.proofs.SoundLaws.{sound_claims}
 use Rattle.drains.specs.declared.Longest.TheVariants.{Steps}
 use Rattle.drains.specs.Calls.{shown_list}
-use Rattle.drains.specs.Legs.{drain_turns}
 use Rattle.drains.proofs.CheckLaws.{drain_not_refused, length_refused, length_told}
-use Rattle.drains.proofs.MeetLaws.{shown_longest}
+use Rattle.drains.proofs.MeetLaws.{steps_told, shown_longest}
 use Rattle.drains.proofs.longest_length.Goals as goal
 
 pub returns-then-k-ne0-clause-told : goal.returns-then-k-ne0-clause-told
@@ -20,4 +19,4 @@ returns-clause-told c = ap Steps c.length_of.ensures ∙ sym (length_told c.args
 pub returns-clause-exact : goal.returns-clause-exact
 returns-clause-exact c =
     let shown = shown_longest c.args.b (drain_not_refused c.args.b (sym c.refusal-k.ensures ∙ c.if-k-ne0.false)) in
-    λ k q. record { list = shown_list c.args.b; longest = shown; long = shown.exact ∙ sym c.length_of.ensures ∙ ap drain_turns q }
+    λ k q. record { list = shown_list c.args.b; longest = shown; long = shown.exact ∙ sym c.length_of.ensures ∙ ap steps_told q }

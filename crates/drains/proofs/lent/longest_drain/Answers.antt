@@ -1,24 +1,15 @@
--- The list is written once, from the whole table.
-use Rattle.std.proofs.Common.{◌≡◌, ◌≤◌, List, ◌++◌, sym, ap, subst, ◌∙◌, length, drop, arith, rules}
-use lib.Seq.{take_all}
-use Rattle.drains.specs.Legs.{course, StaysInTable}
-use Rattle.drains.specs.declared.legs.Leg.{Leg}
-use Rattle.drains.proofs.MeetLaws.{writable, list_meets}
+-- By the length that is told, or by the refusal.
+use Rattle.drains.proofs.MeetLaws.{told_room, told_meets, refused_meets}
 use Rattle.drains.proofs.lent.longest_drain.Goals as goal
 
-pub write-requires : goal.write-requires
-write-requires c =
-    let p = c.planned-p.result in
-    let n = c.drain_turns-n.result in
-    let list = c.args.list.now in
-    let long : length p.legs ≡ 385 = search rules in
-    subst (λ (table : List Leg). (n ≤ length list) × StaysInTable n table p.cursor) (sym (take_all 385 p.legs (omega (arith, long)))) (writable c.args.b list c.fitting-r.result n p c.fitting-r.ensures c.drain_turns-n.ensures c.planned-p.ensures)
+pub write_longest-requires-clause-sound : goal.write_longest-requires-clause-sound
+write_longest-requires-clause-sound c = (told_room c.args.b c.args.list.now c.fitting-longest.result c.fitting-longest.ensures c.in-Steps.field-0 c.in-Steps.is).0
 
-pub returns : goal.returns
-returns c =
-    let p = c.planned-p.result in
-    let n = c.drain_turns-n.result in
-    let list = c.args.list.now in
-    let long : length p.legs ≡ 385 = search rules in
-    list_meets c.args.b list c.fitting-r.result n p c.fitting-r.ensures c.drain_turns-n.ensures c.planned-p.ensures c.write.new.list
-    (c.write.ensures ∙ ap (λ (table : List Leg). course n table p.cursor ++ drop n list) (take_all 385 p.legs (omega (arith, long))))
+pub write_longest-requires-clause-room : goal.write_longest-requires-clause-room
+write_longest-requires-clause-room c = (told_room c.args.b c.args.list.now c.fitting-longest.result c.fitting-longest.ensures c.in-Steps.field-0 c.in-Steps.is).1
+
+pub returns-in-Steps : goal.returns-in-Steps
+returns-in-Steps c = told_meets c.args.b c.args.list.now c.fitting-longest.result c.fitting-longest.ensures c.in-Steps.field-0 c.in-Steps.is c.write_longest.new.list c.write_longest.ensures
+
+pub returns-in_default : goal.returns-in_default
+returns-in_default c = refused_meets c.args.b c.args.list.now c.fitting-longest.result c.fitting-longest.ensures c.in_default.field-0 c.in_default.is
