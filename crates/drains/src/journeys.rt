@@ -79,8 +79,8 @@ impl Way {
     fn write_all<S: Source>(&self, sources: &[S], list: &mut [StepRecord], mut at: usize) -> usize
         requires few { length sources.now ≤ 256 }
         requires within { (i : ℕ) (x : S) → i < length sources.now → S.within i (get_or sources.now i x) }
-        requires room { at + length (join_of (λ i x. S.steps self.now.delay self.now.parents self.now.free i x) sources.now) ≤ length list.old }
-        ensures { Writes (join_of (λ i x. S.steps self.now.delay self.now.parents self.now.free i x) sources.now) at list.old list.new result }
+        requires room { at + length (join_of (λ i x. S.steps self.now i x) sources.now) ≤ length list.old }
+        ensures { Writes (join_of (λ i x. S.steps self.now i x) sources.now) at list.old list.new result }
     {
         for (i, source) in sources.iter().enumerate() {
             at = source.write_steps(i, self, list, at);
@@ -101,5 +101,5 @@ pub(crate) fn write_longest(b: &Board, list: &mut [StepRecord])
         free: free_slot(&b.slots),
     };
     let at = way.write_all(&b.units, list, 0);
-    let _end = way.write_all(&b.slots, list, at);
+    way.write_all(&b.slots, list, at);
 }

@@ -1,5 +1,5 @@
 // The length of the longest drain, by one table of depths.
-ghost use Rattle.std.specs.Prelude.{◌≡◌, ℕ, ◌+◌, ◌*◌, ◌≤◌, ◌<◌, get_or, length};
+ghost use Rattle.std.specs.Prelude.{◌≡◌, ℕ, ◌+◌, ◌*◌, ◌^◌, ◌≤◌, ◌<◌, get_or, length};
 ghost use Rattle.rules.specs.Facts.{sum_of};
 ghost use Rattle.rules.specs.Boards.{view};
 ghost use Rattle.rules.specs.Sound.{Sound};
@@ -20,7 +20,7 @@ impl Distances {
     // The steps on the way from a unit of this depth, which begins to wait: d + 2 for each unit until unit 0.
     pub(crate) fn way_up(&self, depth: u16) -> usize
         ensures exact { result ≡ (self.now.delay + 2) * depth }
-        ensures few { result < 8589934592 }
+        ensures few { result < 2 ^ 33 }
     {
         (usize::from(self.delay) + 2) * usize::from(depth)
     }
@@ -29,8 +29,8 @@ impl Distances {
     fn sum<S: Source>(&self, sources: &[S]) -> usize
         requires few { length sources.now ≤ 256 }
         requires within { (i : ℕ) (x : S) → i < length sources.now → S.within i (get_or sources.now i x) }
-        ensures exact { result ≡ sum_of (λ i x. S.steps_length self.now.delay self.now.depths i x) sources.now }
-        ensures few { result ≤ 256 * 17179869184 }
+        ensures exact { result ≡ sum_of (λ i x. S.steps_length self.now i x) sources.now }
+        ensures few { result ≤ 2 ^ 42 }
     {
         let mut sum = 0;
         for (i, source) in sources.iter().enumerate() {

@@ -1,7 +1,9 @@
 // What has steps of a drain before it: a unit that waits, and a return under way in a slot.
-ghost use Rattle.std.specs.Prelude.{◌≡◌, ℕ, ◌+◌, ◌≤◌, ◌<◌, length, List};
+ghost use Rattle.std.specs.Prelude.{◌≡◌, ℕ, ◌+◌, ◌^◌, ◌≤◌, ◌<◌, length, List};
 ghost use Rattle.rules.specs.declared.StepRecord.{StepRecord};
 ghost use Rattle.drains.specs.Writing.{Writes};
+ghost use Rattle.drains.specs.declared.journeys.Way.{Way};
+ghost use Rattle.drains.specs.declared.lengths.Distances.{Distances};
 
 use crate::journeys::{Way, put, step};
 use crate::lengths::Distances;
@@ -9,26 +11,24 @@ use rules::{Action, Kind, Slot, State, StepRecord, UnitRecord};
 
 // A unit or a slot, by its number and its entry.
 pub(crate) trait Source {
-    // its number is one that the board has, and so is its receiver's
+    // its number is one that a board has, and so is its receiver's
     ghost within: { ℕ → Self → Type 0 };
 
-    // by the delay and the depths, its number and its entry
-    ghost steps_length: { ℕ → List ℕ → ℕ → Self → ℕ };
+    ghost steps_length: { Distances → ℕ → Self → ℕ };
 
-    // by the delay, the parents and the slot for releases, its number and its entry
-    ghost steps: { ℕ → List ℕ → ℕ → ℕ → Self → List StepRecord };
+    ghost steps: { Way → ℕ → Self → List StepRecord };
 
     // How many steps it can still cause.
     fn steps_length(&self, number: usize, distances: &Distances) -> usize
         requires { within number self.now }
-        ensures exact { result ≡ steps_length distances.now.delay distances.now.depths number self.now }
-        ensures few { result < 17179869184 };
+        ensures exact { result ≡ steps_length distances.now number self.now }
+        ensures few { result < 2 ^ 34 };
 
     // Writes them from a place of the list on. Gives the place behind them.
     fn write_steps(&self, number: usize, way: &Way, list: &mut [StepRecord], at: usize) -> usize
         requires within { within number self.now }
-        requires room { at + length (steps way.now.delay way.now.parents way.now.free number self.now) ≤ length list.old }
-        ensures { Writes (steps way.now.delay way.now.parents way.now.free number self.now) at list.old list.new result };
+        requires room { at + length (steps way.now number self.now) ≤ length list.old }
+        ensures { Writes (steps way.now number self.now) at list.old list.new result };
 }
 
 impl Source for UnitRecord {
@@ -37,9 +37,9 @@ impl Source for UnitRecord {
 
     ghost within = { λ i x. i < 64 };
 
-    ghost steps_length = { λ d depths i x. unit_length d (get_or depths i 0) x x.state };
+    ghost steps_length = { λ distances i x. unit_length distances.delay (get_or distances.depths i 0) x x.state };
 
-    ghost steps = { λ d ps free i x. unit_steps d ps free i x x.state };
+    ghost steps = { λ way i x. unit_steps way.delay way.parents way.free i x x.state };
 
     fn steps_length(&self, number: usize, distances: &Distances) -> usize {
         match self.state {
@@ -65,9 +65,9 @@ impl Source for Slot {
 
     ghost within = { λ j y. (j < 256) × (y.to < 64) };
 
-    ghost steps_length = { λ d depths j y. slot_length d (get_or depths y.to 0) y.kind };
+    ghost steps_length = { λ distances j y. slot_length distances.delay (get_or distances.depths y.to 0) y.kind };
 
-    ghost steps = { λ d ps free j y. slot_steps d ps free j y y.kind };
+    ghost steps = { λ way j y. slot_steps way.delay way.parents way.free j y y.kind };
 
     fn steps_length(&self, _number: usize, distances: &Distances) -> usize {
         match self.kind {

@@ -12,15 +12,15 @@ invariant_of-way c = record { lower = all_lower (view c.args.b.now) c.requires.s
 pub write_all-at-requires-clause-room : goal.write_all-at-requires-clause-room
 write_all-at-requires-clause-room c = omega (arith, parts_length (view c.args.b.now) c.free_slot.result c.requires.sound.sheet, c.requires.room)
 
-pub write_all-end-requires-clause-within : goal.write_all-end-requires-clause-within
-write_all-end-requires-clause-within c = receivers_near (view c.args.b.now) c.requires.sound.sheet
+pub write_all-requires-clause-within : goal.write_all-requires-clause-within
+write_all-requires-clause-within c = receivers_near (view c.args.b.now) c.requires.sound.sheet
 
-pub write_all-end-requires-clause-room : goal.write_all-end-requires-clause-room
-write_all-end-requires-clause-room c =
+pub write_all-requires-clause-room : goal.write_all-requires-clause-room
+write_all-requires-clause-room c =
     omega (arith, parts_length (view c.args.b.now) c.free_slot.result c.requires.sound.sheet, c.requires.room, c.write_all-at.ensures.ends, c.write_all-at.auto.list)
 
 pub returns : goal.returns
 returns c =
     let b = view c.args.b.now in
-    longest_written b c.free_slot.result c.requires.sound.sheet c.write_all-at.ensures c.write_all-end.ensures c.requires.room
+    longest_written b c.free_slot.result c.requires.sound.sheet c.write_all-at.ensures c.write_all.ensures c.requires.room
     ∙ ap (λ (s : ℕ). longest_list b s ++ drop (longest_length b) c.args.list.now) c.free_slot.ensures

@@ -5,4 +5,4 @@ use Rattle.drains.specs.Writing.{Writes}
 use Rattle.drains.proofs.journeys.Way.write_all.Given as goal
 
 abbrev pub invariant-loop-i : goal.invariant-loop-i
-invariant-loop-i g l = Writes (join_of (λ i x. g.S.Source.steps l.self.delay l.self.parents l.self.free i x) (take l.i l.sources)) l.fn.at l.fn.list l.list l.at
+invariant-loop-i g l = Writes (join_of (λ i x. g.S.Source.steps l.self i x) (take l.i l.sources)) l.fn.at l.fn.list l.list l.at
