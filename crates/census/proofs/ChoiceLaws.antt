@@ -16,11 +16,11 @@ use Rattle.rules.proofs.FactLaws.{true_not_false, by_test, true_or_not, claims, 
 use Rattle.rules.proofs.JudgeLaws.{number_claims}
 use Rattle.rules.proofs.LetterLaws.{record_kind}
 use Rattle.rules.proofs.Sheets.Accepted.{place_numbered}
-use Rattle.census.specs.Choices.{seven_kinds, ranges, numbers_from, for_each, steps_in, choices}
+use Rattle.census.specs.Choices.{seven_kinds, ranges, range_size, numbers_from, for_each, steps_in, choices}
 use Rattle.rules.specs.Busy.{how_many, some}
 use Rattle.census.specs.Claims.{ChoicesNumber, InRange, same_step, times, ChoicesExact}
 use Rattle.census.proofs.ForEachLaws.{sum_parts, length_sum}
-use Rattle.census.proofs.choices.RangeLaws.{range_size, steps_in_length}
+use Rattle.census.proofs.choices.RangeLaws.{steps_in_length}
 
 -- ---- their number: those of one kind are the product of its ranges
 pub choices_number : ChoicesNumber

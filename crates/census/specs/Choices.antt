@@ -23,6 +23,10 @@ ranges_of n m k (l ∷ ls) = with_field (ranges_of n m k ls) l.field (range_of n
 abbrev pub ranges : ℕ → ℕ → Action → StepRecord
 ranges n m a = ranges_of n m (kind_of a) (letters a)
 
+-- how many steps there are in such ranges
+abbrev pub range_size : StepRecord → ℕ
+range_size c = c.unit * (c.other * c.slot)
+
 -- so many numbers from i on
 unfoldable pub numbers_from : ℕ → ℕ → List ℕ
 numbers_from i zero = []

@@ -41,19 +41,7 @@ pub enum Counted {
 fn size_refusal(m: u16, d: u16, parents: &[u16], length: u16) -> u16
     ensures { result ≡ judge (λ k. k) (size_checks m d parents.now length) 0 }
 {
-    if parents.len() > 2 {
-        return 46;
-    }
-    if m < 1 {
-        return 46;
-    }
-    if m > 2 {
-        return 46;
-    }
-    if d > 1 {
-        return 46;
-    }
-    if length > 4 {
+    if parents.len() > 2 || m < 1 || m > 2 || d > 1 || length > 4 {
         return 46;
     }
     0
@@ -68,10 +56,8 @@ pub fn census(m: u16, d: u16, parents: &[u16], length: u16) -> Counted
         return Counted::Refused(beyond);
     }
     let o = board::open(m, d, parents);
-    let refused = o.answer;
-    if refused != 0 {
-        return Counted::Refused(refused);
+    if o.answer != 0 {
+        return Counted::Refused(o.answer);
     }
-    let b = o.board;
-    Counted::Lists(ends(b, length))
+    Counted::Lists(ends(&o.board, length))
 }

@@ -14,18 +14,18 @@ returns-then-beyond-ne0 c =
     let z = c.size_refusal-beyond in
     ap Refused z.ensures ∙ sym (census_beyond _ _ _ _ (λ e. c.if-beyond-ne0.true (z.ensures ∙ e)))
 
-pub returns-then-refused-ne0 : goal.returns-then-refused-ne0
-returns-then-refused-ne0 c =
+pub returns-then-o-ne0 : goal.returns-then-o-ne0
+returns-then-o-ne0 c =
     let o = c.open-o in
     ap (λ (x : Outcome). Refused x.answer) o.ensures
-    ∙ sym (census_unopened _ _ _ _ (sym c.size_refusal-beyond.ensures ∙ c.if-beyond-ne0.false) (λ e. c.if-refused-ne0.true (ap (λ (x : Outcome). x.answer) o.ensures ∙ e)))
+    ∙ sym (census_unopened _ _ _ _ (sym c.size_refusal-beyond.ensures ∙ c.if-beyond-ne0.false) (λ e. c.if-o-ne0.true (ap (λ (x : Outcome). x.answer) o.ensures ∙ e)))
 
 pub ends-requires : goal.ends-requires
 ends-requires c =
     let a = c.args in
     let o = c.open-o in
     let within : refusal_number (size_checks a.m a.d a.parents.now a.length) ≡ 0 = sym c.size_refusal-beyond.ensures ∙ c.if-beyond-ne0.false in
-    let accepted : (opening a.m a.d a.parents.now).answer ≡ 0 = sym (ap (λ (x : Outcome). x.answer) o.ensures) ∙ c.if-refused-ne0.false in
+    let accepted : (opening a.m a.d a.parents.now).answer ≡ 0 = sym (ap (λ (x : Outcome). x.answer) o.ensures) ∙ c.if-o-ne0.false in
     let opened = opened_ready a.m a.d a.parents.now a.length within accepted in
     let r : Ready o.result.board = subst (λ (x : Outcome). Ready x.board) (sym o.ensures) opened.0 in
     (r.0, r.1, r.2, opened.1)
@@ -35,7 +35,7 @@ returns c =
     let a = c.args in
     let o = c.open-o in
     let within : refusal_number (size_checks a.m a.d a.parents.now a.length) ≡ 0 = sym c.size_refusal-beyond.ensures ∙ c.if-beyond-ne0.false in
-    let accepted : (opening a.m a.d a.parents.now).answer ≡ 0 = sym (ap (λ (x : Outcome). x.answer) o.ensures) ∙ c.if-refused-ne0.false in
+    let accepted : (opening a.m a.d a.parents.now).answer ≡ 0 = sym (ap (λ (x : Outcome). x.answer) o.ensures) ∙ c.if-o-ne0.false in
     ap Lists c.ends.ensures
     ∙ ap (λ (x : Outcome). Lists (ends_from x.board a.length)) o.ensures
     ∙ sym (census_counted a.m a.d a.parents.now a.length within accepted)

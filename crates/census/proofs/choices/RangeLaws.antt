@@ -6,12 +6,9 @@ use native.Mathlib.Nat.{mul-zero, mod-lt, mod-one, div-one, div-add-mod', div-lt
 use native.Mathlib.Omega.{arith}
 use lib.ListN.{length, get_or}
 use Rattle.rules.specs.declared.StepRecord.{StepRecord}
-use Rattle.census.specs.Choices.{numbers_from, for_each, steps_in}
+use Rattle.census.specs.Choices.{range_size, numbers_from, for_each, steps_in}
 use Rattle.steps.specs.NoStep.{no_step}
 use Rattle.census.proofs.ForEachLaws.{length_numbers, number_at, length_for_each, for_each_at}
-
-abbrev pub range_size : StepRecord → ℕ
-range_size c = c.unit * (c.other * c.slot)
 
 -- lists of one length w, one for each number below k: their length, and an element by division
 numbered_length : {B : Type 0} (w k : ℕ) (f : ℕ → List B) → ((x : ℕ) → length (f x) ≡ w) → length (for_each (numbers_from 0 k) f) ≡ k * w
