@@ -18,7 +18,7 @@ use Rattle.rules.proofs.FactLaws.{judge_passed, each_claims}
 use Rattle.rules.proofs.JudgeLaws.{Numbered, refusal_number, judge_by_number, judge_map, judge_append, number_claims}
 use Rattle.rules.proofs.FreshSound.{opening_passed, opening_fresh}
 use Rattle.rules.proofs.Theorem.{opening_sound}
-use Rattle.census.specs.Choices.{choices, numbers_from, for_each, steps_in}
+use Rattle.census.specs.Choices.{choices, for_each, steps_in}
 use Rattle.census.specs.Counting.{ends_from, size_checks, census, ending_count}
 use Rattle.census.specs.Claims.{ChoicesNumber, CountsAddUp, BeyondFirst, NoSteps, OneStep}
 use Rattle.census.specs.declared.Counted.{Counted}
@@ -148,7 +148,7 @@ refused_row d i r = fails (eqb (sound_step (fresh 1 d []) r).answer 0) ∷ []
 
 -- the six others are refused, as computing them shows
 others_refused : (d : ℕ) → Each (refused_row d) (drop 1 (choices 1 1))
-unfolding choices for_each steps_in numbers_from each fresh sound_step sheet_sound_step effect applied record_rule
+unfolding choices for_each steps_in each fresh sound_step sheet_sound_step effect applied record_rule
 others_refused d = each_claims (refused_row d) (drop 1 (choices 1 1)) refl
 
 -- a board whose unit 0 is active is busy: the sum of the active units has a part of 1
@@ -176,7 +176,7 @@ module _ (d : ℕ) (e : (opening 1 d []).answer ≡ 0) where
   computed r = step_sound b r b_sound ∙ ap (λ (o : Outcome). sound_step o.board r) (opened_fresh 1 d [] e)
 
   one_ending : (is : Board → Bool) → ending_count is b 1 ≡ ending_count is started 0 + 6 * ending_count is b 0
-  unfolding choices for_each steps_in numbers_from sum_of fresh
+  unfolding choices for_each steps_in sum_of fresh
   one_ending is =
       ending_next is b 0
       ∙ ap (λ (o : Outcome). sum_of (λ i r. ending_count is (step b r).board 0) (choices o.board.n o.board.m)) (opened_fresh 1 d [] e)

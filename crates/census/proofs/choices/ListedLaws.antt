@@ -1,12 +1,12 @@
 -- Choices that are listed one behind the other: those of one kind, and kind by kind.
 use mathlib.Core.Path.{◌≡◌, refl, sym, ap, ◌∙◌}
 use mathlib.Core.List.{List, [], ◌∷◌, ◌++◌, append_assoc, append-nil}
-use Prim.Native.Nat.{ℕ, zero, suc, ◌+◌, ◌*◌, ◌≤◌, ◌<◌}
-use native.Mathlib.Nat.{mul-le-mul, le_of_suc-le-suc, not-suc-le-zero}
-use native.Mathlib.Numerals.{add-one}
+use Prim.Native.Nat.{ℕ, ◌+◌, ◌*◌, ◌≤◌, ◌<◌}
+use native.Mathlib.Nat.{mul-le-mul}
 use native.Mathlib.Omega.{arith}
 use lib.ListN.{length, get_or, set, take, length-append}
-use Rattle.std.proofs.lemmas.List.{take_more, take_more_set}
+use Rattle.std.specs.List.{flat_map}
+use Rattle.std.proofs.lemmas.List.{take_more, take_more_set, flat_map_more}
 use Rattle.rules.specs.declared.StepRecord.{StepRecord}
 use Rattle.rules.specs.declared.Action.{Action}
 use Rattle.rules.specs.declared.Action.TheVariants.{Unknown, Start, Send, Request as RequestStep, Deliver, Rest, Tick, Release, Move}
@@ -60,18 +60,13 @@ pub no_kinds : (n m : ℕ) (list : List StepRecord) → KindsListed n m 0 0 list
 unfolding for_each
 no_kinds n m list = record { few = omega arith; counted = refl; listed = refl }
 
-pub for_each_taken : {A B : Type 0} (f : A → List B) (xs : List A) (i : ℕ) (d : A) → i < length xs → for_each (take (suc i) xs) f ≡ for_each (take i xs) f ++ f (get_or xs i d)
-unfolding for_each
-for_each_taken f [] i d l = absurd (not-suc-le-zero l)
-for_each_taken f (x ∷ xs) zero d l = append-nil (f x)
-for_each_taken f (x ∷ xs) (suc i) d l = ap (λ (ys : List _). f x ++ ys) (for_each_taken f xs i d (le_of_suc-le-suc l)) ∙ sym (append_assoc (f x) (for_each (take i xs) f) (f (get_or xs i d)))
-
 pub one_kind : {n m i count count' : ℕ} {list list' : List StepRecord} → KindsListed n m i count list → i < 7 → n ≤ 3 → m ≤ 2 → (a : Action) → a ≡ get_or seven_kinds i Release
     → count' ≡ count + range_size (ranges n m a) → take count' list' ≡ take count list ++ steps_in (ranges n m a) → KindsListed n m (i + 1) count' list'
+unfolding for_each
 one_kind {n} {m} {i} {count} {count'} {list} {list'} k l p q a e c s =
     let f : Action → List StepRecord = λ x. steps_in (ranges n m x) in
     let more : for_each (take (i + 1) seven_kinds) f ≡ for_each (take i seven_kinds) f ++ f a =
-    ap (λ (j : ℕ). for_each (take j seven_kinds) f) (add-one i) ∙ for_each_taken f seven_kinds i Release l ∙ ap (λ (x : Action). for_each (take i seven_kinds) f ++ f x) (sym e) in
+    ap (flat_map f) (take_more seven_kinds i Release l ∙ ap (λ (x : Action). take i seven_kinds ++ x ∷ []) (sym e)) ∙ sym (flat_map_more f [] (take i seven_kinds) a) in
     record {
       few = omega (arith, k.few, c, few_steps (ranges n m a) (ranges_small n m a p q));
       counted = omega (arith, k.counted, c, ap length more, length-append (for_each (take i seven_kinds) f) (f a), steps_in_length (ranges n m a));
