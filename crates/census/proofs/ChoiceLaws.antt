@@ -8,15 +8,15 @@ use native.Mathlib.Omega.{arith}
 use lib.Dec.{eqb, ltb}
 use borrow.Author.Tests.{eqb-true, eqb-false, not-true, not-false, lt-ltb, le-ltb, ne_eqb}
 use Rattle.std.specs.List.{range_with_len}
+use Rattle.std.specs.Prelude.{Ok, Err}
 use Rattle.rules.specs.Facts.{Fact, below, Claims, tests, sum_of, one_if}
 use Rattle.rules.specs.Actions.{action_of, kind_of}
 use Rattle.rules.specs.Letters.{letters, place_checks, values_of, used_fields, used}
 use Rattle.rules.specs.declared.StepRecord.{StepRecord}
 use Rattle.rules.specs.declared.Action.{Action}
 use Rattle.rules.proofs.FactLaws.{true_not_false, by_test, true_or_not, claims, claims_tested, asked, judge_passed}
-use Rattle.rules.proofs.JudgeLaws.{number_claims}
+use Rattle.rules.proofs.JudgeLaws.{answer_claims}
 use Rattle.rules.proofs.LetterLaws.{record_kind}
-use Rattle.rules.proofs.Sheets.Accepted.{place_numbered}
 use Rattle.census.specs.Choices.{seven_kinds, ranges, range_size, for_each, steps_in, choices}
 use Rattle.rules.specs.Busy.{how_many, some}
 use Rattle.census.specs.Claims.{ChoicesNumber, InRange, same_step, times, ChoicesExact}
@@ -114,7 +114,7 @@ module _ (n m : ℕ) (r : StepRecord) where
   placed : InRange n m r → Placed (action_of r.kind)
   unfolding used
   placed h = (
-    number_claims (place_checks n m r (action_of r.kind)) (place_numbered n m r (action_of r.kind)) h.places,
+    answer_claims (place_checks n m r (action_of r.kind)) h.places,
     ap (λ (q : StepRecord). q.unit) h.unused,
     ap (λ (q : StepRecord). q.other) h.unused,
     ap (λ (q : StepRecord). q.slot) h.unused,
@@ -126,7 +126,7 @@ module _ (n m : ℕ) (r : StepRecord) where
       let ls = letters (action_of r.kind) in
       record {
         kind = e;
-        places = judge_passed (λ k. k) (place_checks n m r (action_of r.kind)) 0 p.0;
+        places = judge_passed Err (place_checks n m r (action_of r.kind)) (Ok tt) p.0;
         unused = λ i. record { kind = record_kind r.kind 0 ls (values_of r ls) i; unit = p.1 i; other = p.2 i; slot = p.3 i };
       }
 

@@ -3,7 +3,7 @@ ghost use Rattle.std.specs.Prelude.{◌≡◌, ◌++◌, ◌+◌, ◌*◌, ◌�
 ghost use Rattle.census.specs.Choices.{ranges, range_size, steps_in, choices, choice_number};
 ghost use Rattle.steps.specs.NoStep.{no_step};
 
-use rules::{Action, BATCH, StepRecord};
+use rules::{Action, BATCH, NO_STEP, StepRecord};
 
 const SEVEN_KINDS: [Action; 7] = [
     Action::Start,
@@ -14,13 +14,6 @@ const SEVEN_KINDS: [Action; 7] = [
     Action::Tick,
     Action::Release,
 ];
-
-const NO_STEP: StepRecord = StepRecord {
-    kind: 0,
-    unit: 0,
-    other: 0,
-    slot: 0,
-};
 
 // How many values each field has in a step of a kind: one where the kind does not use it.
 fn ranges(action: Action, n: u16, m: u16) -> StepRecord

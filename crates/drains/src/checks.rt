@@ -5,6 +5,7 @@ ghost use Rattle.rules.specs.Busy.{is_busy};
 ghost use Rattle.drains.specs.Calls.{lowest_free, drain_checks};
 
 use board::{is_sound, some_active, some_work};
+use refusals::Refusal;
 use rules::{Board, Slot};
 
 // The lowest free slot.
@@ -21,18 +22,18 @@ fn is_busy(b: &Board) -> bool
     some_active(b.units) || some_work(b.slots)
 }
 
-// 0, or the number that refuses: 30, 48, 49.
-pub(crate) fn refusal(b: &Board) -> u16
-    ensures { result ≡ judge (λ j. j) (drain_checks b.now) 0 }
+// Whether the board has a longest drain to show.
+pub(crate) fn may_show(b: &Board) -> Result<(), Refusal>
+    ensures { result ≡ judge Err (drain_checks b.now) (Ok tt) }
 {
     if !is_sound(*b) {
-        return 30;
+        return Err(Refusal::NotSound);
     }
     if is_busy(b) {
-        return 48;
+        return Err(Refusal::WorkLeft);
     }
     if free_slot(&b.slots) >= b.m {
-        return 49;
+        return Err(Refusal::NoFreeSlot);
     }
-    0
+    Ok(())
 }

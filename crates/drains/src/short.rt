@@ -1,30 +1,18 @@
 // A longest drain by value, of at most `BATCH` steps.
 ghost use Rattle.std.specs.Prelude.{◌≡◌};
-ghost use Rattle.steps.specs.NoStep.{no_step};
 ghost use Rattle.drains.specs.Calls.{short_drain};
 ghost use Rattle.drains.specs.Claims.{ShowsLongest};
 
 use crate::ShortDrain;
 use crate::lent::longest_drain;
-use rules::{BATCH, Board, StepRecord};
+use rules::{BATCH, Board, NO_STEP};
 
-fn no_step() -> StepRecord
-    ensures { result ≡ no_step }
-{
-    StepRecord {
-        kind: 0,
-        unit: 0,
-        other: 0,
-        slot: 0,
-    }
-}
-
-// The list in an array of `BATCH` entries; refused by 50 where the drain is longer.
+// The list in an array of `BATCH` entries; refused where the drain is longer.
 pub fn short_drain(b: Board) -> ShortDrain
     ensures told { result ≡ short_drain b }
     ensures shown { ShowsLongest b result.longest result.steps }
 {
-    let mut steps = [no_step(); BATCH];
+    let mut steps = [NO_STEP; BATCH];
     let longest = longest_drain(b, &mut steps);
     ShortDrain { longest, steps }
 }

@@ -8,6 +8,7 @@ use native.Mathlib.Omega.{arith}
 use lib.ListN.{length, get_or, take, length-take}
 use lib.Seq.{get_or-take, take-length}
 use borrow.Author.Tests.{eq-eqb, ne_eqb}
+use Rattle.refusals.specs.Numbers.{number_of}
 use Rattle.rules.specs.Facts.{sum_of}
 use Rattle.rules.specs.Runs.{batch_most, padded}
 use Rattle.rules.specs.Sound.{Sound}
@@ -76,10 +77,10 @@ pub listed_choice : {b : Board} {count : ℕ} {cs : List StepRecord} {ks : List 
 listed_choice h i e = e ∙ ap (λ (rs : List StepRecord). get_or rs i no_step) h.choices
 
 -- and the number that is read is its answer
-pub listed_answer : {b : Board} {count i : ℕ} {cs : List StepRecord} {ks : List ℕ} → Listed b count cs ks → i < length (take count cs) → {r : StepRecord} → r ≡ get_or (take count cs) i no_step → {k : ℕ} → k ≡ get_or ks i 0 → k ≡ (step b r).answer
+pub listed_answer : {b : Board} {count i : ℕ} {cs : List StepRecord} {ks : List ℕ} → Listed b count cs ks → i < length (take count cs) → {r : StepRecord} → r ≡ get_or (take count cs) i no_step → {k : ℕ} → k ≡ get_or ks i 0 → k ≡ number_of (step b r).answer
 listed_answer {b} {count} {i} {cs} h l e q =
     let below : (i < count) × (i < length cs) = (omega (arith, l, length-take count cs), omega (arith, l, length-take count cs)) in
-    q ∙ ap (λ (ns : List ℕ). get_or ns i 0) h.answers ∙ answer_at b cs count i below.0 below.1 ∙ ap (λ (x : StepRecord). (step b x).answer) (sym (get_or-take count cs i no_step below.0) ∙ sym e)
+    q ∙ ap (λ (ns : List ℕ). get_or ns i 0) h.answers ∙ answer_at b cs count i below.0 below.1 ∙ ap (λ (x : StepRecord). number_of (step b x).answer) (sym (get_or-take count cs i no_step below.0) ∙ sym e)
 
 -- ---- sums over the first choices
 module _ (b : Board) (k : ℕ) where
@@ -110,19 +111,19 @@ module _ (b : Board) (k : ℕ) where
     part_more : (is : Board → Bool) (sum part : ℕ) → accepted_choice is b k (choice_at i) ≡ part → sum ≡ accepted_to is i → sum + part ≡ accepted_to is (suc i)
     part_more is sum part e s = omega (arith, s, e, sum_taken (λ j r. accepted_choice is b k r) (choices_on b) i no_step l)
 
-    accepted_more : (is : Board → Bool) (sum : ℕ) → (step b (choice_at i)).answer ≡ 0 → sum ≡ accepted_to is i → sum + ending_count is (step b (choice_at i)).board k ≡ accepted_to is (suc i)
+    accepted_more : (is : Board → Bool) (sum : ℕ) → number_of (step b (choice_at i)).answer ≡ 0 → sum ≡ accepted_to is i → sum + ending_count is (step b (choice_at i)).board k ≡ accepted_to is (suc i)
     accepted_more is sum e = part_more is sum _ (rw (eq-eqb _ 0 e))
 
-    refused_more : (is : Board → Bool) (sum : ℕ) → ((step b (choice_at i)).answer ≡ 0 → ⊥) → sum ≡ accepted_to is i → sum ≡ accepted_to is (suc i)
+    refused_more : (is : Board → Bool) (sum : ℕ) → (number_of (step b (choice_at i)).answer ≡ 0 → ⊥) → sum ≡ accepted_to is i → sum ≡ accepted_to is (suc i)
     refused_more is sum n s = omega (arith, part_more is sum 0 (rw (ne_eqb _ 0 n)) s)
 
     -- the turn of an accepted choice r, with the board that it leaves and what follows from there
     pub turn_accepted :
-        {sum part : Ends} {refused i' : ℕ} {r : StepRecord} {next : Board} → Turn sum refused i → i' ≡ suc i → r ≡ choice_at i → (step b r).answer ≡ 0 → next ≡ (step b r).board → part ≡ ends_from next k
+        {sum part : Ends} {refused i' : ℕ} {r : StepRecord} {next : Board} → Turn sum refused i → i' ≡ suc i → r ≡ choice_at i → number_of (step b r).answer ≡ 0 → next ≡ (step b r).board → part ≡ ends_from next k
         → Turn (plus_of sum part) refused i'
     turn_accepted {sum} {part} {refused} {i'} {r} {next} w ei er e en ep =
         let given : part ≡ ends_from (step b (choice_at i)).board k = ep ∙ ap (λ (c : Board). ends_from c k) (en ∙ ap (λ (q : StepRecord). (step b q).board) er) in
-        let a : (step b (choice_at i)).answer ≡ 0 = sym (ap (λ (q : StepRecord). (step b q).answer) er) ∙ e in
+        let a : number_of (step b (choice_at i)).answer ≡ 0 = sym (ap (λ (q : StepRecord). number_of (step b q).answer) er) ∙ e in
         let none : refused_choice b (choice_at i) ≡ 0 = rw (eq-eqb _ 0 a) in
         subst (λ (j : ℕ). Turn (plus_of sum part) refused j) (sym ei) (subst (λ (p : Ends). Turn (plus_of sum p) refused (suc i)) (sym given) (record {
           within = l;
@@ -133,9 +134,9 @@ module _ (b : Board) (k : ℕ) where
           other = accepted_more is_other sum.other a w.other;
         }))
 
-    pub turn_refused : {sum : Ends} {refused refused' i' : ℕ} {r : StepRecord} → Turn sum refused i → i' ≡ suc i → refused' ≡ suc refused → r ≡ choice_at i → ((step b r).answer ≡ 0 → ⊥) → Turn sum refused' i'
+    pub turn_refused : {sum : Ends} {refused refused' i' : ℕ} {r : StepRecord} → Turn sum refused i → i' ≡ suc i → refused' ≡ suc refused → r ≡ choice_at i → (number_of (step b r).answer ≡ 0 → ⊥) → Turn sum refused' i'
     turn_refused {sum} {refused} {refused'} {i'} {r} w ei ef er left =
-        let n : (step b (choice_at i)).answer ≡ 0 → ⊥ = λ z. left (ap (λ (q : StepRecord). (step b q).answer) er ∙ z) in
+        let n : number_of (step b (choice_at i)).answer ≡ 0 → ⊥ = λ z. left (ap (λ (q : StepRecord). number_of (step b q).answer) er ∙ z) in
         let one : refused_choice b (choice_at i) ≡ 1 = rw (ne_eqb _ 0 n) in
         subst (λ (j : ℕ). Turn sum refused' j) (sym ei) (record {
           within = l;

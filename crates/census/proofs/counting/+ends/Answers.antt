@@ -2,6 +2,7 @@
 use Rattle.std.proofs.Common.{◌≡◌, ◌<◌, ℕ, suc, ◌-◌, List, [], ◌∷◌, ◌++◌, length, get_or, take, refl, sym, ap, ◌∙◌, arith, rules}
 use Rattle.std.proofs.lemmas.List.{length_push}
 use Rattle.std.proofs.lemmas.Slice.Zip.{zip_turn, zip_end}
+use Rattle.refusals.specs.Numbers.{number_of}
 use Rattle.rules.specs.Steps.{step}
 use Rattle.rules.specs.declared.Board.{Board}
 use Rattle.rules.specs.declared.StepRecord.{StepRecord}
@@ -31,7 +32,7 @@ module _ (t : ℕ) (c : In-Some t) where
       c.loop-choice.yielded_by (c.in-Some.choice, c.in-Some.answer) c.in-Some.is c.next.ensures.steps in
       (pair.0, pair.2 no_step, pair.3 0)
 
-  answered : c.in-Some.answer.now ≡ (step c.args.b.now c.in-Some.choice.now).answer
+  answered : c.in-Some.answer.now ≡ number_of (step c.args.b.now c.in-Some.choice.now).answer
   answered = listed_answer listed read.0 read.1 read.2
 
   one_more : length (c.loop-choice.yielded ++ (c.in-Some.choice, c.in-Some.answer) ∷ []) ≡ suc turns
