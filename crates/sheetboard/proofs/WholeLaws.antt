@@ -1,16 +1,12 @@
 -- The listing of the bytes that were read is that of the whole input: of a script that is too long it tells no more.
-use Rattle.std.proofs.Common.{◌≡◌, sym, subst, ℕ, ◌<◌, List, ◌++◌, length, length-append, Result, Ok, Err, is_ok, IfSome, OnOk, arith}
-use Rattle.std.proofs.lemmas.Option.{IfSome_then}
-use Rattle.std.specs.Result.{MatchResult, IsErrAnd}
-use Rattle.std.specs.Io.KnownBytes.{Appends}
+use Rattle.std.proofs.Common.{◌≡◌, sym, subst, ℕ, ◌<◌, List, ◌++◌, length, length-append, Result, Ok, Err, is_ok, IfSome, arith}
 use Rattle.std.specs.declared.io.Error.{Error}
 use Rattle.std.specs.declared.option.Option.{Option}
 use Rattle.listing.specs.Scripts.{listing}
 use Rattle.listing.proofs.StartLaws.{start_long}
 use Rattle.reading.proofs.OutputLaws.{ToldAsWriting}
 use Rattle.reading.specs.declared.failures.Failure.{Failure}
-use Rattle.reading.specs.declared.failures.Failure.TheVariants.{Writing}
-use Rattle.sheetboard.specs.Output.{HandsOver, Lists, Arrives}
+use Rattle.sheetboard.specs.Output.{HandsOver, Lists}
 
 pub listing_cut : (t rest : List ℕ) → 65535 < length t → listing (t ++ rest) ≡ listing t
 unfolding listing

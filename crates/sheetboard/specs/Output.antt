@@ -1,6 +1,5 @@
 -- What the program hands to its output: the listing, part by part.
 use Rattle.std.specs.Prelude.{◌≡◌, ◌+◌, Bool, true, false, List, ℕ, ◌≤◌, length, take, replicate, Result, Ok, Err, IfSome}
-use Rattle.std.specs.Io.KnownBytes.{Keeps, Appends}
 use Rattle.std.specs.declared.option.Option.{Option}
 use Rattle.listing.specs.Scripts.{listing}
 use Rattle.listing.specs.Parts.{beginning, call_text, joined}
