@@ -8,7 +8,7 @@ pub(crate) struct Tree {
     pub(crate) told: &'static str,
 }
 
-// All lists, then of each sort how many there are and the share in hundredths with one decimal.
+// All lists, then of each sort how many there are and the share as a percentage with one decimal.
 fn put_ends(to: &impl Print, ends: Ends) -> io::Result<()> {
     let share = shares(ends);
     print!(to; "{:>9}", lists(ends))?;
@@ -17,7 +17,7 @@ fn put_ends(to: &impl Print, ends: Ends) -> io::Result<()> {
         (ends.busy, share.busy),
         (ends.other, share.other),
     ] {
-        print!(to; "{count:>11}{:>6}.{}%", share / 10, share % 10)?;
+        print!(to; "{count:>11}{:>5}.{}%", share / 10, share % 10)?;
     }
     println!(to)
 }
