@@ -1,7 +1,7 @@
--- `read_full`: the bytes counted are within the buffer, and the first that the reader had left; each turn but the last counts more.
+-- `fill`: the bytes counted are within the buffer, and the first that the reader had left; each turn but the last counts more.
 use Rattle.std.proofs.Common.{◌-◌, ◌≤◌, length, take}
 use Rattle.std.specs.Io.KnownBytes.{Consumes}
-use Rattle.reading.proofs.read_full.Given as goal
+use Rattle.reading.proofs.fill.Given as goal
 
 abbrev pub invariant-loop-count : goal.invariant-loop-count
 invariant-loop-count g l = record {
