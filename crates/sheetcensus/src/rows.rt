@@ -1,5 +1,5 @@
 // A row of the table: a board, a length, and how the lists end.
-use census::{Counted, Ends, census, lists, shares};
+use census::{Ends, census, lists, shares};
 use std::io;
 
 // The parents of the units from unit 1 on, and how they are told.
@@ -32,8 +32,8 @@ pub(crate) fn row(
     let told = tree.told;
     print!(to; "{slots:>5}{delay:>7}{told:>9}{length:>8}")?;
     match census(slots, delay, tree.parents, length) {
-        Counted::Lists(ends) => put_ends(to, ends),
+        Ok(ends) => put_ends(to, ends),
         // No board of the table is refused; else the number would stand for the lists, in a line as long as the others.
-        Counted::Refused(number) => println!(to; "{number:>9}{:57}", ""),
+        Err(refusal) => println!(to; "{:>9}{:57}", refusal.number(), ""),
     }
 }
