@@ -14,7 +14,7 @@ ghost use Rattle.casetext.specs.Rows.{cells_text, cells_row, bytes_put};
 use decimal::{digit_count, put_number, put_tabbed_number};
 pub use entries::entry;
 use placing::{Wrote, put_bytes};
-pub use steps::Step;
+pub use steps::{Step, list_of};
 pub use told::Told;
 
 // Whether the cells and the line's end fit in the room, which is counted down: no sum wraps.
