@@ -9,33 +9,33 @@ mod writes;
 use std::io;
 use tell::{first, later};
 
-fn firsts(to: &impl Print, title: &str, lines: &[&[u8]]) -> io::Result<()> {
+// Each line is told by what reads it: as a first line, or as a later one.
+fn table<P: Print, F: Fn(&P, &[u8]) -> io::Result<()>>(
+    to: &P,
+    title: &str,
+    lines: &[&[u8]],
+    tell: F,
+) -> io::Result<()>
+    requires { F.IsAlwaysCallable tell }
+{
     println!(to; "{title}")?;
     for line in lines {
-        first(to, line)?;
-    }
-    Ok(())
-}
-
-fn laters(to: &impl Print, title: &str, lines: &[&[u8]]) -> io::Result<()> {
-    println!(to; "{title}")?;
-    for line in lines {
-        later(to, line)?;
+        tell(to, line)?;
     }
     Ok(())
 }
 
 fn all(to: &impl Print) -> io::Result<()> {
-    firsts(to, "first lines", &lines::FIRST_LINES)?;
-    firsts(to, "other first lines", &lines::OTHER_FIRST_LINES)?;
-    laters(to, "steps", &lines::STEPS)?;
-    laters(to, "words", &lines::WORDS)?;
-    laters(to, "counts", &lines::COUNTS)?;
-    laters(to, "numbers", &lines::NUMBERS)?;
-    laters(to, "digits", &lines::DIGITS)?;
-    laters(to, "padded", &lines::PADDED)?;
-    laters(to, "padded fields", &lines::PADDED_FIELDS)?;
-    firsts(to, "padded first lines", &lines::PADDED_FIRST_LINES)?;
+    table(to, "first lines", &lines::FIRST_LINES, first)?;
+    table(to, "other first lines", &lines::OTHER_FIRST_LINES, first)?;
+    table(to, "steps", &lines::STEPS, later)?;
+    table(to, "words", &lines::WORDS, later)?;
+    table(to, "counts", &lines::COUNTS, later)?;
+    table(to, "numbers", &lines::NUMBERS, later)?;
+    table(to, "digits", &lines::DIGITS, later)?;
+    table(to, "padded", &lines::PADDED, later)?;
+    table(to, "padded fields", &lines::PADDED_FIELDS, later)?;
+    table(to, "padded first lines", &lines::PADDED_FIRST_LINES, first)?;
     long::all(to)?;
     writes::written(to)?;
     writes::not_written(to)

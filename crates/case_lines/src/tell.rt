@@ -26,7 +26,7 @@ fn told(to: &impl Print, r: Reading, list: &[u16]) -> io::Result<()> {
     }
 }
 
-pub(crate) fn first(to: &impl Print, line: &[u8]) -> io::Result<()> {
+pub(crate) fn first<P: Print>(to: &P, line: &[u8]) -> io::Result<()> {
     let b = script::read_board(line);
     told(to, b.reading, &b.parents)
 }
@@ -37,6 +37,6 @@ pub(crate) fn three_parents(to: &impl Print, line: &[u8]) -> io::Result<()> {
     parents(to, &script::read_board(line).parents[..3])
 }
 
-pub(crate) fn later(to: &impl Print, line: &[u8]) -> io::Result<()> {
+pub(crate) fn later<P: Print>(to: &P, line: &[u8]) -> io::Result<()> {
     told(to, script::read_line(line, false), &[])
 }
