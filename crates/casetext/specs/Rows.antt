@@ -1,7 +1,9 @@
 -- What programs that execute cases write alike: a row of numbers, and what finished tells.
-use Rattle.std.specs.Prelude.{List, [], ◌∷◌, ◌++◌, ℕ}
+use Rattle.std.specs.Prelude.{List, [], ◌∷◌, ◌++◌, ℕ, take}
 use Rattle.rules.specs.declared.Verdict.{Verdict}
 use Rattle.rules.specs.declared.Verdict.TheVariants.{Working, Finished, Refused}
+use Rattle.placing.specs.declared.Wrote.{Wrote}
+use Rattle.placing.specs.declared.Wrote.TheVariants.{Count, Refused as WriteRefused}
 use Rattle.decimal.specs.Spelling.{spelled}
 use Rattle.fields.specs.Fields.{tab}
 use Rattle.texts.specs.Texts.{finished_word, working_word}
@@ -20,3 +22,8 @@ abbrev pub verdict_text : Verdict → List ℕ
 verdict_text Working = working_word
 verdict_text Finished = finished_word
 verdict_text (Refused k) = spelled k
+
+-- the bytes that a writer put at the start of a buffer, none where it was refused
+abbrev pub bytes_put : Wrote → List ℕ → List ℕ
+bytes_put (Count n) out = take n out
+bytes_put (WriteRefused k) out = []
