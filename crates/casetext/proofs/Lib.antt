@@ -1,3 +1,2 @@
-pub mod MadeLaws
 pub mod RowLaws
 pub mod SpelledLaws

@@ -1,6 +1,5 @@
 -- The record of a step that is named: its kind's number, and 0 in the fields that the kind has no letter for.
-use Rattle.std.specs.Prelude.{ℕ, List, map, get_or}
-use Rattle.std.specs.List.{range_with_len}
+use Rattle.std.specs.Prelude.{ℕ}
 use Rattle.rules.specs.declared.StepRecord.{StepRecord}
 use Rattle.casetext.specs.declared.steps.Step.{Step}
 use Rattle.casetext.specs.declared.steps.Step.TheVariants.{Start, Send, Request, Deliver, Rest, Tick, Release, Move, Unknown}
@@ -18,7 +17,3 @@ record_of (Tick u) = fields 6 u 0 0
 record_of (Release u s) = fields 7 u 0 s
 record_of (Move u p) = fields 8 u p 0
 record_of (Unknown k) = fields k 0 0 0
-
--- 16 records: those of the steps given, and of starts of unit 0 behind them
-abbrev pub list_of : List Step → List StepRecord
-list_of steps = map (λ (i : ℕ). record_of (get_or steps i (Start 0))) (range_with_len 0 16)

@@ -1,5 +1,5 @@
 // What programs that execute cases write alike: written whole at a place of a buffer, or refused by 27 with the buffer as it was.
-// In `entries` a board as numbers.
+// In `entries` a board as numbers, in `steps` steps by name, in `told` what finished tells.
 #![tactic(auto)]
 
 mod entries;
@@ -13,8 +13,9 @@ ghost use Rattle.casetext.specs.Rows.{cells_text, cells_row, bytes_put};
 
 use decimal::{digit_count, put_number, put_tabbed_number};
 pub use entries::entry;
-use placing::{Wrote, put_bytes};
-pub use steps::{Step, list_of};
+use placing::{put_bytes, room_for};
+use refusals::Refusal;
+pub use steps::Step;
 pub use told::Told;
 
 // Whether the cells and the line's end fit in the room, which is counted down: no sum wraps.
@@ -33,7 +34,7 @@ fn cells_fit(cells: &[u64], room: usize) -> bool
 }
 
 // The cells and the line's end, and the place behind them.
-#[tactic(auto, using(decimal::proofs::CountLaws::count_most, crate::proofs::RowLaws::cells_length, crate::proofs::RowLaws::cells_end, crate::proofs::RowLaws::cell_stored, placing::proofs::WriteLaws::written_fits))]
+#[tactic(auto, using(decimal::proofs::SpellLaws::spelled_length, decimal::proofs::CountLaws::count_most, crate::proofs::RowLaws::cells_length, crate::proofs::RowLaws::cells_end, crate::proofs::RowLaws::cell_stored, placing::proofs::WriteLaws::wrote_fits, placing::proofs::WriteLaws::written_fits))]
 fn cells_in(cells: &[u64], out: &mut [u8], at: usize) -> usize
     requires { at + length (cells_text cells.now) ≤ length out.old }
     ensures end { result ≡ at + length (cells_text cells.now) }
@@ -41,39 +42,31 @@ fn cells_in(cells: &[u64], out: &mut [u8], at: usize) -> usize
 {
     let mut to = at;
     for n in cells {
-        put_tabbed_number(*n, out, to);
-        to += digit_count(*n) + 1;
+        to += put_tabbed_number(*n, out, to).unwrap();
     }
-    put_bytes(b"\n", out, to);
-    to + 1
+    to + put_bytes(b"\n", out, to).unwrap()
 }
 
 // A row of numbers at a place. Whether it fits is known before its first byte is written.
-pub fn put_row(first: u64, cells: &[u64], out: &mut [u8], at: usize) -> Wrote
+pub fn put_row(first: u64, cells: &[u64], out: &mut [u8], at: usize) -> Result<usize, Refusal>
     ensures { Writes (cells_row first cells.now) at out.old result out.new }
 {
     let k = digit_count(first);
-    if at > out.len() {
-        return Wrote::Refused(27);
+    room_for(k, out, at)?;
+    if !cells_fit(cells, out.len() - at - k) {
+        return Err(Refusal::NoRoom);
     }
-    let room = out.len() - at;
-    if k > room {
-        return Wrote::Refused(27);
-    }
-    if !cells_fit(cells, room - k) {
-        return Wrote::Refused(27);
-    }
-    put_number(first, out, at);
+    put_number(first, out, at).unwrap();
     let end = cells_in(cells, out, at + k);
-    Wrote::Count(end - at)
+    Ok(end - at)
 }
 
 // The bytes that a writer put at the start of a buffer; none where it was refused.
-pub fn bytes_put(wrote: Wrote, out: &[u8]) -> &[u8]
+pub fn bytes_put(wrote: Result<usize, Refusal>, out: &[u8]) -> &[u8]
     ensures { result.now ≡ bytes_put wrote out.now }
 {
     match wrote {
-        Wrote::Count(n) => &out[..n.min(out.len())],
-        Wrote::Refused(_) => &[],
+        Ok(n) => &out[..n.min(out.len())],
+        Err(_) => &[],
     }
 }

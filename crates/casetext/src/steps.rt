@@ -1,9 +1,8 @@
 // Steps by name, as the tables of cases list them.
 ghost use Rattle.std.specs.Prelude.{◌≡◌};
-ghost use Rattle.casetext.specs.Steps.{record_of, list_of};
+ghost use Rattle.casetext.specs.Steps.{record_of};
 
 use rules::StepRecord;
-use std::array;
 
 // A step with the fields that its kind has a letter for: units first, then the slot.
 #[derive(Clone, Copy)]
@@ -42,11 +41,4 @@ impl From<Step> for StepRecord {
             slot,
         }
     }
-}
-
-// The list of a run by value: the steps given, and starts of unit 0 behind them, up to 16.
-pub fn list_of(steps: &[Step]) -> [StepRecord; 16]
-    ensures { result ≡ list_of steps.now }
-{
-    array::from_fn(|i| steps.get(i).copied().unwrap_or(Step::Start(0)).into())
 }

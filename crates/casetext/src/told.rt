@@ -2,21 +2,22 @@
 ghost use Rattle.std.specs.Prelude.{Some};
 ghost use Rattle.casetext.specs.Rows.{verdict_text};
 
+use refusals::Refusal;
 use rules::Verdict;
 use std::fmt;
 
 // The word of a verdict, or the number of a refusal.
 #[derive(Clone, Copy)]
-pub struct Told(pub Verdict);
+pub struct Told(pub Result<Verdict, Refusal>);
 
 impl fmt::Display for Told {
     ghost output = { λ told. Some (verdict_text told.0) };
 
     fn fmt<W: fmt::Write>(&self, f: &mut fmt::Formatter<W>) -> fmt::Result {
         match self.0 {
-            Verdict::Working => write!(f, "working"),
-            Verdict::Finished => write!(f, "finished"),
-            Verdict::Refused(k) => write!(f, "{k}"),
+            Ok(Verdict::Working) => write!(f, "working"),
+            Ok(Verdict::Finished) => write!(f, "finished"),
+            Err(k) => write!(f, "{}", k.number()),
         }
     }
 }
