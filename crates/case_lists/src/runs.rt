@@ -1,13 +1,16 @@
 // Runs over a list: what the buffer holds after each, what it gives, and the debt and the state of the board after it.
+ghost use Rattle.std.specs.Prelude.{◌≤◌};
+
 use crate::lists::{MOVES, REFUSALS, REST_OF_IT, WHOLE_CASE};
-use casetext::{Step, Told, list_of};
-use rules::{Board, Ran};
+use casetext::{Step, Told};
+use refusals::Refusal;
+use rules::{Board, StepRecord};
 use std::io;
 
-fn tell_ran(to: &impl Print, ran: Ran) -> io::Result<()> {
+fn tell_ran(to: &impl Print, ran: Result<usize, Refusal>) -> io::Result<()> {
     match ran {
-        Ran::Zeros(n) => print!(to; "zeros\t{n}"),
-        Ran::Refused(k) => print!(to; "refused\t{k}"),
+        Ok(zeros) => print!(to; "zeros\t{zeros}"),
+        Err(refusal) => print!(to; "refused\t{}", refusal.number()),
     }
 }
 
@@ -20,17 +23,25 @@ fn tell_buffer(to: &impl Print, buffer: [u16; 18]) -> io::Result<()> {
     println!(to)
 }
 
-// Runs the first `count` steps with room for `room` answers, and tells what the whole buffer holds then.
-fn run(
+// Runs the first `count` steps with room for `room` answers, and tells what the whole buffer holds then. No list here has more than 16
+// steps; of any N it would be open whether memory holds an array of them.
+fn run<const N: usize>(
     to: &impl Print,
     title: &str,
     b: Board,
-    steps: &[Step],
+    steps: [Step; N],
     count: usize,
     room: usize,
-) -> io::Result<Board> {
+) -> io::Result<Board>
+    requires { N ≤ 16 }
+{
     let mut buffer = [99u16; 18];
-    let after = steps::run_list(b, list_of(steps), count, &mut buffer[..room.min(18)]);
+    let after = steps::run_list(
+        b,
+        steps.map(StepRecord::from),
+        count,
+        &mut buffer[..room.min(18)],
+    );
     println!(to; "{title}")?;
     tell_buffer(to, buffer)?;
     tell_ran(to, after.ran)?;
@@ -41,26 +52,26 @@ fn run(
 
 // On the board that the refusals left.
 fn on_from(to: &impl Print, b: Board) -> io::Result<()> {
-    run(to, "a buffer one short", b, &REST_OF_IT, 2, 1)?;
-    run(to, "on from there", b, &REST_OF_IT, 2, 2)?;
-    run(to, "an empty list", b, &REST_OF_IT, 0, 0)?;
+    run(to, "a buffer one short", b, REST_OF_IT, 2, 1)?;
+    run(to, "on from there", b, REST_OF_IT, 2, 2)?;
+    run(to, "an empty list", b, REST_OF_IT, 0, 0)?;
     Ok(())
 }
 
 fn not_sound(to: &impl Print, b: Board) -> io::Result<()> {
-    run(to, "a board that is not sound", b, &REST_OF_IT, 2, 2)?;
-    run(to, "the same with a buffer one short", b, &REST_OF_IT, 2, 1)?;
-    run(to, "the same with an empty list", b, &REST_OF_IT, 0, 0)?;
+    run(to, "a board that is not sound", b, REST_OF_IT, 2, 2)?;
+    run(to, "the same with a buffer one short", b, REST_OF_IT, 2, 1)?;
+    run(to, "the same with an empty list", b, REST_OF_IT, 0, 0)?;
     Ok(())
 }
 
 pub(crate) fn all(to: &impl Print) -> io::Result<()> {
     let fresh = board::open(2, 1, &[0]).board;
-    run(to, "whole case", fresh, &WHOLE_CASE, 9, 18)?;
-    let b = run(to, "refusals in the list", fresh, &REFUSALS, 17, 17)?;
+    run(to, "whole case", fresh, WHOLE_CASE, 9, 18)?;
+    let b = run(to, "refusals in the list", fresh, REFUSALS, 17, 17)?;
     on_from(to, b)?;
     not_sound(to, Board { debt: 16383, ..b })?;
     let chain = board::open(2, 0, &[0, 1]).board;
-    run(to, "moves in the list", chain, &MOVES, 13, 18)?;
+    run(to, "moves in the list", chain, MOVES, 13, 18)?;
     Ok(())
 }

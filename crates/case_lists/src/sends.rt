@@ -1,5 +1,6 @@
 // One unit sends from 2^24 until its weight is 1: 1,978 times, 961 of them down to below 2^20. Each message is delivered before the next, so that the slot is free.
 use casetext::Step;
+use refusals::number_of;
 use rules::{Board, Outcome};
 use std::io;
 
@@ -11,13 +12,13 @@ fn step(b: Board, step: Step) -> Outcome {
 
 fn row(to: &impl Print, k: u32, sent: Outcome) -> io::Result<()> {
     let left = sent.board.units[0].weight;
-    println!(to; "{k}\t{}\t{left}", sent.answer)
+    println!(to; "{k}\t{}\t{left}", number_of(sent.answer))
 }
 
 // Send k, from unit 0 to unit 1 by slot 0, and its delivery. Every hundredth send is written, and one that is refused.
 fn send(to: &impl Print, b: Board, k: u32) -> io::Result<Board> {
     let sent = step(b, Step::Send(0, 1, 0));
-    if k % 100 == 0 || sent.answer != 0 {
+    if k % 100 == 0 || sent.answer.is_err() {
         row(to, k, sent)?;
     }
     Ok(step(sent.board, Step::Deliver(0)).board)

@@ -1,6 +1,7 @@
 // The whole case through the library's calls: for each step its number, answer and debt, and whether the sheet is finished.
 use crate::lists::WHOLE_CASE;
 use casetext::bytes_put;
+use refusals::number_of;
 use rules::{Board, Outcome};
 use std::io;
 use texts::{write_heading, write_line};
@@ -14,7 +15,7 @@ fn heading(to: &impl Print) -> io::Result<()> {
 fn line(to: &impl Print, i: u64, given: Outcome) -> io::Result<Board> {
     let b = given.board;
     let mut out = [0u8; 64];
-    let answer = u64::from(given.answer);
+    let answer = u64::from(number_of(given.answer));
     let wrote = write_line(i, answer, b.debt, board::finished(b), &mut out, 0);
     to.write_all(bytes_put(wrote, &out))?;
     Ok(b)
