@@ -1,18 +1,11 @@
 // Boards of three units and three slots about the limits of weights, debt and suspension.
 use crate::rows::limit;
 use crate::{GRANT, MOST};
-use rules::{Board, Kind, Slot, State, UnitRecord};
+use rules::{BLANK_SLOT, Board, Kind, Slot, State, UnitRecord};
 use std::io;
 
 // 2^63: twice that wraps to 0.
 const HALF: u64 = 9223372036854775808;
-
-const EMPTY: Slot = Slot {
-    weight: 0,
-    from: 0,
-    to: 0,
-    kind: Kind::Empty,
-};
 
 const SUPPLY: Slot = Slot {
     weight: GRANT,
@@ -103,11 +96,11 @@ fn heavy(to: &impl Print) -> io::Result<()> {
 fn light(to: &impl Print) -> io::Result<()> {
     limit(to, 11, pending(request(2), request(2), 2))?;
     limit(to, 12, pending(request(2), SUPPLY, 2 + GRANT))?;
-    limit(to, 13, pending(SUPPLY, EMPTY, 2 + GRANT))?;
+    limit(to, 13, pending(SUPPLY, BLANK_SLOT, 2 + GRANT))?;
     limit(to, 14, pending(SUPPLY, SUPPLY, 2 + 2 * GRANT))?;
     limit(to, 15, both_asking())?;
-    limit(to, 16, pending(request(1), EMPTY, 2))?;
-    limit(to, 17, pending(EMPTY, EMPTY, 2))
+    limit(to, 16, pending(request(1), BLANK_SLOT, 2))?;
+    limit(to, 17, pending(BLANK_SLOT, BLANK_SLOT, 2))
 }
 
 pub(crate) fn all(to: &impl Print) -> io::Result<()> {

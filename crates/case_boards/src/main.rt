@@ -10,7 +10,7 @@ mod weights;
 use damages::Damages;
 use std::io;
 
-// 2^24, what a start or a grant brings.
+// 2^24, what a start or a grant brings. It stands here again, as 2^40 does: the cases hold the library to both.
 pub(crate) const GRANT: u64 = 16777216;
 
 // 2^40, the most debt.
