@@ -1,6 +1,7 @@
 // The lines of a script: what a line says, the parents of a board line, and a step written as a line.
 #![tactic(auto)]
 
+mod letters;
 mod lines;
 mod words;
 mod writing;

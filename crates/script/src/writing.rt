@@ -1,56 +1,14 @@
 // Writing a step as a line of a script.
-ghost use Rattle.std.specs.Prelude.{◌≡◌, ◌+◌, ◌≤◌, length, take};
+ghost use Rattle.std.specs.Prelude.{◌≡◌, true, ◌+◌, ◌≤◌, length};
 ghost use Rattle.std.proofs.lemmas.List.Edits.{sets};
-ghost use Rattle.rules.specs.Actions.{kinds, action_of, is_known};
+ghost use Rattle.rules.specs.Actions.{action_of, is_known};
 ghost use Rattle.placing.specs.Placing.{Writes};
 ghost use Rattle.numbers.specs.Numbers.{tabbed};
 ghost use Rattle.script.specs.Writing.{letters_of, step_text, step_wrote, step_written};
 
-use crate::words::put_word;
+use crate::words::{action, step_word};
 use placing::Wrote;
-use rules::{KINDS, StepRecord};
-
-// The values of a step's letters in their order: the first `count` of the list.
-#[derive(Clone, Copy)]
-struct Letters {
-    count: usize,
-    list: [u16; 3],
-}
-
-fn letters_of(r: StepRecord) -> Letters
-    requires { (1 ≤ r.kind) × (r.kind ≤ kinds) }
-    ensures { (result.count ≤ length result.list) × (take result.count result.list ≡ letters_of r (action_of r.kind)) }
-{
-    let kind = r.kind;
-    match kind {
-        2 => Letters {
-            count: 3,
-            list: [r.unit, r.other, r.slot],
-        },
-        3 | 7 => Letters {
-            count: 2,
-            list: [r.unit, r.slot, 0],
-        },
-        4 => Letters {
-            count: 1,
-            list: [r.slot, 0, 0],
-        },
-        8 => Letters {
-            count: 2,
-            list: [r.unit, r.other, 0],
-        },
-        _ => Letters {
-            count: 1,
-            list: [r.unit, 0, 0],
-        },
-    }
-}
-
-fn wide(n: u16) -> u64
-    ensures { result ≡ n }
-{
-    n as u64
-}
+use rules::{Action, StepRecord};
 
 // Each number behind a tab; the answer is the place behind them all.
 fn put_tabbed(ns: &[u16], out: &mut [u8], at: usize) -> usize
@@ -58,39 +16,40 @@ fn put_tabbed(ns: &[u16], out: &mut [u8], at: usize) -> usize
     ensures { (result ≡ at + length (tabbed ns.now)) × (out.new ≡ sets out.old at (tabbed ns.now)) }
 {
     let mut to = at;
-    let mut i = 0;
-    while i < ns.len() {
-        let n = wide(ns[i]);
+    for n in ns {
+        let n = u64::from(*n);
         decimal::put_tabbed_number(n, out, to);
         to = to + 1 + decimal::digit_count(n);
-        i += 1;
     }
     to
 }
 
+// The values of a step's letters in their order, each behind a tab; the answer is the place behind them all.
+fn put_letters(r: StepRecord, action: Action, out: &mut [u8], at: usize) -> usize
+    requires { at + length (tabbed (letters_of r action)) ≤ length out.old }
+    ensures { (result ≡ at + length (tabbed (letters_of r action))) × (out.new ≡ sets out.old at (tabbed (letters_of r action))) }
+{
+    match action {
+        Action::Unknown => at,
+        Action::Start | Action::Rest | Action::Tick => put_tabbed(&[r.unit], out, at),
+        Action::Send => put_tabbed(&[r.unit, r.other, r.slot], out, at),
+        Action::Request | Action::Release => put_tabbed(&[r.unit, r.slot], out, at),
+        Action::Deliver => put_tabbed(&[r.slot], out, at),
+        Action::Move => put_tabbed(&[r.unit, r.other], out, at),
+    }
+}
+
 // The line at the start of a buffer. It is put together apart, so that its whole length is known before the buffer changes.
-fn step_line(r: StepRecord, out: &mut [u8]) -> Wrote
-    requires { (1 ≤ r.kind) × (r.kind ≤ kinds) }
+fn step_line(r: StepRecord, action: Action, out: &mut [u8]) -> Wrote
+    requires { (action ≡ action_of r.kind) × (is_known action ≡ true) }
     ensures { Writes (step_text r) 0 out.old result out.new }
 {
     let mut text = [0u8; 32];
-    let from = put_word(r.kind, &mut text);
-    let s = letters_of(r);
-    let list = s.list;
-    let count = s.count;
-    let end = put_tabbed(&list[0..count], &mut text, from);
+    let word = step_word(action);
+    placing::put_bytes(word, &mut text, 0);
+    let end = put_letters(r, action, &mut text, word.len());
     text[end] = b'\n';
-    let n = end + 1;
-    placing::put_bytes(&text[0..n], out, 0)
-}
-
-fn is_kind(kind: u16) -> bool
-    ensures { result ≡ is_known (action_of kind) }
-{
-    if kind < 1 {
-        return false;
-    }
-    kind <= KINDS
+    placing::put_bytes(&text[..=end], out, 0)
 }
 
 // A step as a line of a script at a place of a buffer: refused by 16 where its kind is none, by 27 where the line does not fit. The kind is
@@ -98,12 +57,12 @@ fn is_kind(kind: u16) -> bool
 pub fn write_step(r: StepRecord, out: &mut [u8], at: usize) -> Wrote
     ensures { (result ≡ step_wrote r at out.old) × (out.new ≡ step_written r at out.old) }
 {
-    let known = is_kind(r.kind);
-    if !known {
+    let action = action(r.kind);
+    if matches!(action, Action::Unknown) {
         return Wrote::Refused(16);
     }
     if at > out.len() {
         return Wrote::Refused(27);
     }
-    step_line(r, &mut out[at..])
+    step_line(r, action, &mut out[at..])
 }
