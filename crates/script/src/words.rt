@@ -1,8 +1,8 @@
 // The words of a script: one table, by which they are read and written.
-ghost use Rattle.std.specs.Prelude.{◌≡◌, [], ◌<◌, get_or, map, MatchResult};
+ghost use Rattle.std.specs.Prelude.{◌≡◌, [], ◌<◌, get_or, MatchResult};
 ghost use Rattle.std.specs.List.{position};
 ghost use Rattle.std.specs.Str.{bytes_eq};
-ghost use Rattle.refusals.specs.Numbers.{UnknownWord};
+ghost use Rattle.refusals.specs.declared.Refusal.TheVariants.{UnknownWord};
 ghost use Rattle.rules.specs.Actions.{kinds, kind_of, action_of};
 ghost use Rattle.script.specs.Words.{words, word_number};
 ghost use Rattle.script.specs.Asked.{Names};
@@ -47,7 +47,7 @@ pub(crate) fn action(kind: u16) -> Action
 }
 
 fn place_among(words: &[&[u8]], name: &[u8]) -> Option<usize>
-    ensures { result ≡ position (bytes_eq name.now) (map (λ word. word.now) words.now) }
+    ensures { result ≡ position (λ word. bytes_eq name.now word.now) words.now }
 {
     words.iter().position(|word| name == *word)
 }
