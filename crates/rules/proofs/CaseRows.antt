@@ -6,6 +6,8 @@ use Prim.Native.Nat.{ℕ, ◌<◌}
 use native.Mathlib.Omega.{arith}
 use lib.ListN.{length}
 use lib.Dec.{eqb}
+use Rattle.std.specs.Prelude.{Ok}
+use Rattle.refusals.specs.Numbers.{number, number_of}
 use Rattle.rules.specs.Facts.{Fact, equal, holds, fails, Claim, Claims, tests, Each, each, sum_of, same_list, judge}
 use Rattle.rules.specs.Records.{is_waiting, ceiling, Action, Unknown, Start, Send, RequestStep, Deliver, Rest, Tick, Release, Move, Board, StepRecord, Outcome, Verdict, Working, Finished}
 use Rattle.rules.specs.Sheets.Sheet.{unit_at, slot_at}
@@ -37,11 +39,10 @@ use Rattle.rules.proofs.EventSound.{answer_shown, step_keeps_sound}
 use Rattle.rules.proofs.Projection.{list_keeps_sound}
 use Rattle.rules.proofs.FinishedLaws.{verdict_sound}
 use Rattle.rules.proofs.Theorem.{opening_sound}
-use Rattle.rules.specs.declared.Verdict.TheVariants.{Refused}
 
 -- ---- the same list without the tests of soundness
 abbrev pub quick_steps : Events Board StepRecord
-quick_steps = record { next = λ b r. (sound_step b r).board; answer = λ b r. (sound_step b r).answer }
+quick_steps = record { next = λ b r. (sound_step b r).board; answer = λ b r. number_of (sound_step b r).answer }
 
 abbrev pub quick_after : Board → List StepRecord → Board
 quick_after b rs = after_all quick_steps b rs
@@ -53,7 +54,7 @@ pub quick_after_lem : (b : Board) (rs : List StepRecord) → Sound b → after b
 quick_after_lem = same_after steps quick_steps Sound step_keeps_sound (λ b r h. ap (λ (o : Outcome). o.board) (step_sound b r h))
 
 pub quick_answers_lem : (b : Board) (rs : List StepRecord) → Sound b → answers b rs ≡ quick_answers b rs
-quick_answers_lem = same_answers steps quick_steps Sound step_keeps_sound (λ b r h. ap (λ (o : Outcome). o.board) (step_sound b r h)) (λ b r h. ap (λ (o : Outcome). o.answer) (step_sound b r h))
+quick_answers_lem = same_answers steps quick_steps Sound step_keeps_sound (λ b r h. ap (λ (o : Outcome). o.board) (step_sound b r h)) (λ b r h. ap (λ (o : Outcome). number_of o.answer) (step_sound b r h))
 
 -- ---- a test of a drain and its bound that computes, and what it shows
 abbrev zero_row : ℕ → ℕ → List Fact
@@ -106,26 +107,25 @@ steps_are (r ∷ rs) (q ∷ qs) e =
 tells_by : Bool → Verdict → Bool
 tells_by t Working = not t
 tells_by t Finished = t
-tells_by t (Refused k) = false
 
 tells_by_lem : (t : Bool) (v : Verdict) → tells_by t v ≡ true → cond t Finished Working ≡ v
 unfolding tells_by
-tells_by_lem true = elim [ Working ↦ λ e. absurd (true_not_false (sym e)) | Finished ↦ λ e. refl | Refused k ↦ λ e. absurd (true_not_false (sym e)) ]
-tells_by_lem false = elim [ Working ↦ λ e. refl | Finished ↦ λ e. absurd (true_not_false (sym e)) | Refused k ↦ λ e. absurd (true_not_false (sym e)) ]
+tells_by_lem true = elim [ Working ↦ λ e. absurd (true_not_false (sym e)) | Finished ↦ λ e. refl ]
+tells_by_lem false = elim [ Working ↦ λ e. refl | Finished ↦ λ e. absurd (true_not_false (sym e)) ]
 
 row_row : Row → List Fact
 row_row (shares w given) = equal (share w) given ∷ []
-row_row (judges debt x y made a k) = equal (judge (λ j. j) (record_checks debt x y made a) 0) k ∷ []
-row_row (opens m d ps k) = equal (opening m d ps).answer k ∷ []
+row_row (judges debt x y made a k) = equal (judge number (record_checks debt x y made a) 0) k ∷ []
+row_row (opens m d ps k) = equal (number_of (opening m d ps).answer) k ∷ []
 row_row (runs m d ps rs ks v) =
-    equal (opening m d ps).answer 0
+    equal (number_of (opening m d ps).answer) 0
     ∷ holds (same_list (quick_answers (opening m d ps).board rs) ks)
     ∷ holds (tells_by (eqb (quick_after (opening m d ps).board rs).debt 0) v)
     ∷ []
-row_row (bound_is m d ps rs ds k) = equal (opening m d ps).answer 0 ∷ drain_row (quick_after (opening m d ps).board rs) ds k
+row_row (bound_is m d ps rs ds k) = equal (number_of (opening m d ps).answer) 0 ∷ drain_row (quick_after (opening m d ps).board rs) ds k
 row_row (longest m d ps rs s ds) =
     let b : Board = quick_after (opening m d ps).board rs in
-    equal (opening m d ps).answer 0 ∷ holds (same_steps (longest_list (view b) s) ds) ∷ equal (longest_length (view b)) (length ds) ∷ []
+    equal (number_of (opening m d ps).answer) 0 ∷ holds (same_steps (longest_list (view b) s) ds) ∷ equal (longest_length (view b)) (length ds) ∷ []
 
 row_right : (row : Row) → Claims (row_row row) → Right row
 unfolding row_row
@@ -137,7 +137,7 @@ row_right (runs m d ps rs ks v) c =
     let h : Sound f = (opening_sound m d ps c.0).0 in (
       c.0,
       quick_answers_lem f rs h ∙ same_is _ ks c.1.0,
-      verdict_sound (after f rs) (list_keeps_sound f rs h) ∙ ap (λ (b : Board). told_from b.debt) (quick_after_lem f rs h) ∙ tells_by_lem _ v c.1.1.0,
+      verdict_sound (after f rs) (list_keeps_sound f rs h) ∙ ap (λ (b : Board). Ok (told_from b.debt)) (quick_after_lem f rs h) ∙ ap (λ (t : Verdict). Ok t) (tells_by_lem _ v c.1.1.0),
     )
 row_right (bound_is m d ps rs ds k) c =
     let f : Board = (opening m d ps).board in
@@ -194,5 +194,5 @@ stuck = record {
   is_sound = stuck_sound;
   not_finished = verdict_sound stuck_board stuck_sound;
   refused = λ r e. stuck_refuses r (action_of r.kind) (accepted_as (view stuck_board) r stuck_sound.sheet (action_of r.kind) refl (sym (answer_shown stuck_board r stuck_sound) ∙ e));
-  grant_refused = ap (λ (o : Outcome). o.answer) (step_sound stuck_board (deliver 0) stuck_sound);
+  grant_refused = ap (λ (o : Outcome). number_of o.answer) (step_sound stuck_board (deliver 0) stuck_sound);
 }

@@ -3,6 +3,8 @@ use mathlib.Core.Path.{◌≡◌, refl, sym, ap, ◌∙◌}
 use mathlib.Core.Bool.{Bool}
 use mathlib.Core.List.{List, [], ◌∷◌, ◌++◌}
 use Prim.Native.Nat.{ℕ}
+use Rattle.refusals.proofs.NumberLaws.{accepted_is}
+use Rattle.refusals.specs.Numbers.{number_of}
 use Rattle.rules.specs.Actions.{action_of}
 use Rattle.rules.specs.Events.{Events, after_all, all_answers}
 use Rattle.rules.specs.Boards.{view, board_of}
@@ -47,19 +49,19 @@ rounds_shown b r h = ap (λ (o : Outcome). o.board.rounds) (step_shown b r h)
 step_follows : (b c : Board) (r : StepRecord) → Sound b → Sound c → CalmStep b r → Agrees steps ground_on entry_on touches b c r → Follows steps ground_on entry_on touches b c r
 step_follows b c r h k calm same = record {
   accepted = answer_shown c r k ∙ there;
-  grounds = λ i. record { sheet = sheets i; rounds = (rounds_shown c r k ∙ (λ j. rounds_kept ((there ∙ sym z) j) (action_of r.kind) (same.grounds j).rounds) ∙ sym (rounds_shown b r h)) i };
+  grounds = λ i. record { sheet = sheets i; rounds = (rounds_shown c r k ∙ (λ j. rounds_kept ((accepted_is (sheet_step (view c) r).answer there ∙ sym (accepted_is (sheet_step (view b) r).answer z)) j) (action_of r.kind) (same.grounds j).rounds) ∙ sym (rounds_shown b r h)) i };
   entries = λ p e.
       ap (λ (x : Sheet). entry_at x p) (step_view c r k) ∙ of-sheets.repeats_entry (view b) r h.sheet z (view c) k.sheet ground same.entries p e
       ∙ sym (ap (λ (x : Sheet). entry_at x p) (step_view b r h));
 }
   where
-    z : (sheet_step (view b) r).answer ≡ 0
+    z : number_of (sheet_step (view b) r).answer ≡ 0
     z = sym (answer_shown b r h) ∙ calm.0
 
     ground : ground_of (view c) ≡ ground_of (view b)
     ground = ap (λ (g : BoardGround). g.sheet) same.grounds
 
-    there : (sheet_step (view c) r).answer ≡ 0
+    there : number_of (sheet_step (view c) r).answer ≡ 0
     there = of-sheets.repeats_accepted (view b) r h.sheet z (view c) k.sheet ground same.entries
 
     sheets : ground_of (view (step c r).board) ≡ ground_of (view (step b r).board)
@@ -88,7 +90,7 @@ calm_step b r kept = (
     h : Sound b
     h = accepted_sound b r kept.accepted
 
-    z : (sheet_step (view b) r).answer ≡ 0
+    z : number_of (sheet_step (view b) r).answer ≡ 0
     z = sym (answer_shown b r h) ∙ kept.accepted
 
     d : (sheet_step (view b) r).sheet.debt ≡ b.debt
@@ -118,7 +120,7 @@ moves_touch_unit b r m = ap (touched_by (view b) r) m
 
 -- ---- lists of events, of which steps are some
 module _ {E : Type 0} (ev : Events Board E) (taken : StepRecord → E) (next_is : (b : Board) (r : StepRecord) → ev.next b (taken r) ≡ (step b r).board)
-    (answer_is : (b : Board) (r : StepRecord) → ev.answer b (taken r) ≡ (step b r).answer) where
+    (answer_is : (b : Board) (r : StepRecord) → ev.answer b (taken r) ≡ number_of (step b r).answer) where
   -- two steps at the head of a list: the board that they leave, and their answers
   two_after : (b : Board) (q r : StepRecord) → ev.next (ev.next b (taken q)) (taken r) ≡ (step (step b q).board r).board
   two_after b q r = ap (λ (c : Board). ev.next c (taken r)) (next_is b q) ∙ next_is (step b q).board r

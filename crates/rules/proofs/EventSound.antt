@@ -4,6 +4,10 @@ use mathlib.Core.Bool.{true, false, cond, ◌&&◌}
 use Prim.Native.Nat.{ℕ}
 use native.Mathlib.Omega.{arith}
 use lib.Dec.{eqb}
+use Rattle.refusals.proofs.NumberLaws.{accepted_ok}
+use Rattle.refusals.specs.declared.Refusal.{Refusal}
+use Rattle.std.specs.Prelude.{Result, is_ok}
+use Rattle.refusals.specs.Numbers.{number_of}
 use Rattle.rules.specs.Facts.{one_if}
 use Rattle.rules.specs.Actions.{action_of, is_action}
 use Rattle.rules.specs.Rounds.{no_round, SoundRounds}
@@ -23,17 +27,17 @@ use Rattle.rules.proofs.Sheets.CountLaws.{step_advances}
 use Rattle.rules.specs.Records.{Start, Rounds, Board, StepRecord, Outcome, Visited}
 
 -- the answer of a step on a sound board is its sheet's
-pub answer_shown : (b : Board) (r : StepRecord) → Sound b → (step b r).answer ≡ (sheet_step (view b) r).answer
-answer_shown b r h = ap (λ (o : Outcome). o.answer) (step_shown b r h)
+pub answer_shown : (b : Board) (r : StepRecord) → Sound b → number_of (step b r).answer ≡ number_of (sheet_step (view b) r).answer
+answer_shown b r h = ap (λ (o : Outcome). number_of o.answer) (step_shown b r h)
 
 -- an accepted start drops the rounds, another accepted step leaves them
-pub start_drops : (r : StepRecord) (k : ℕ) (x : Rounds) → k ≡ 0 → is_action Start (action_of r.kind) ≡ true → rounds_kept k (action_of r.kind) x ≡ no_round
-start_drops r k x z e = rw (z, e)
+pub start_drops : (r : StepRecord) (k : Result (Unit {0}) Refusal) (x : Rounds) → number_of k ≡ 0 → is_action Start (action_of r.kind) ≡ true → rounds_kept k (action_of r.kind) x ≡ no_round
+start_drops r k x z e = rw (accepted_ok k z, e)
 
-pub other_leaves : (r : StepRecord) (k : ℕ) (x : Rounds) → is_action Start (action_of r.kind) ≡ false → rounds_kept k (action_of r.kind) x ≡ x
-other_leaves r k x e = by_test (λ t. cond (t && is_action Start (action_of r.kind)) no_round x ≡ x) (eqb k 0) (λ q. rw e) (λ q. refl)
+pub other_leaves : (r : StepRecord) (k : Result (Unit {0}) Refusal) (x : Rounds) → is_action Start (action_of r.kind) ≡ false → rounds_kept k (action_of r.kind) x ≡ x
+other_leaves r k x e = by_test (λ t. cond (t && is_action Start (action_of r.kind)) no_round x ≡ x) (is_ok k) (λ q. rw e) (λ q. refl)
 
-module _ (b : Board) (r : StepRecord) (h : Sound b) (z : (sheet_step (view b) r).answer ≡ 0) where
+module _ (b : Board) (r : StepRecord) (h : Sound b) (z : number_of (sheet_step (view b) r).answer ≡ 0) where
   abbrev left : Sheet
   left = (sheet_step (view b) r).sheet
 
@@ -58,4 +62,4 @@ event_keeps_sound b (visits u) h = by_visit (visit_tells b u)
     by_visit : VisitTells b u → Sound (visit b u).board
     by_visit (visited s c e) =
         subst (λ (o : Visited). Sound o.board) (sym e) (record { sheet = h.sheet; rounds = visited_sound (seen_of (view b)) b.rounds u h.rounds (omega (arith, h.sheet.s1_sizes)) c })
-    by_visit (unvisited k l e) = subst (λ (o : Visited). Sound o.board) (sym e) h
+    by_visit (unvisited k e) = subst (λ (o : Visited). Sound o.board) (sym e) h

@@ -9,6 +9,8 @@ use native.Mathlib.Omega.{arith}
 use lib.ListN.{length, get_or, set}
 use lib.Dec.{eqb}
 use borrow.Author.Tests.{leb-true, le-leb, eqb-true, eq-eqb, not-true}
+use Rattle.refusals.specs.Numbers.{number}
+use Rattle.refusals.specs.declared.Refusal.{Refusal}
 use Rattle.rules.specs.Facts.{Fact, below, at_most, equal, holds, fails, Claim, test, Claims, tests, Each, each, same_list, Check, check, judge}
 
 pub and_left : (s t : Bool) → s && t ≡ true → s ≡ true
@@ -120,7 +122,7 @@ asked [] = []
 asked (check f k ∷ cs) = f ∷ asked cs
 
 -- where all of them hold, the result
-pub judge_passed : {A : Type 0} (refused : ℕ → A) (cs : List Check) (result : A) → Claims (asked cs) → judge refused cs result ≡ result
+pub judge_passed : {A : Type 0} (refused : Refusal → A) (cs : List Check) (result : A) → Claims (asked cs) → judge refused cs result ≡ result
 judge_passed refused [] result h = refl
 judge_passed refused (check f k ∷ cs) result h = subst (λ (t : Bool). cond t (judge refused cs result) (refused k) ≡ result) (sym (tested f h.0)) (judge_passed refused cs result h.1)
 
@@ -132,8 +134,8 @@ claims_append (check f k ∷ cs) ds p q = (p.0, claims_append cs ds p.1 q)
 -- the fact that a number refuses by: that of the first check with the number
 abbrev pub fact_by : ℕ → List Check → Fact
 fact_by k [] = holds true
-fact_by k (check f j ∷ cs) = cond (eqb j k) f (fact_by k cs)
+fact_by k (check f j ∷ cs) = cond (eqb (number j) k) f (fact_by k cs)
 
 pub fact_shown : (k : ℕ) (cs : List Check) → Claims (asked cs) → Claim (fact_by k cs)
 fact_shown k [] h = refl
-fact_shown k (check f j ∷ cs) h = by_test (λ t. Claim (cond t f (fact_by k cs))) (eqb j k) (λ e. h.0) (λ e. fact_shown k cs h.1)
+fact_shown k (check f j ∷ cs) h = by_test (λ t. Claim (cond t f (fact_by k cs))) (eqb (number j) k) (λ e. h.0) (λ e. fact_shown k cs h.1)

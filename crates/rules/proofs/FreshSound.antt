@@ -7,6 +7,9 @@ use native.Mathlib.Nat.{le_of_suc-le-suc}
 use native.Mathlib.Omega.{arith}
 use lib.ListN.{length, get_or, replicate, length-append, length-replicate, get_or-replicate, get_or-append}
 use lib.Seq.{get_or-append-add}
+use Rattle.refusals.proofs.NumberLaws.{accepted_is}
+use Rattle.std.specs.Prelude.{Ok}
+use Rattle.refusals.specs.Numbers.{number_of}
 use Rattle.rules.specs.Facts.{Claims, Each, below, one_if}
 use Rattle.rules.specs.Records.{is_work, blank_unit, blank_slot, UnitRecord, Slot, Outcome}
 use Rattle.rules.specs.Sheets.Sheet.{Sheet}
@@ -19,23 +22,23 @@ use Rattle.rules.proofs.FactLaws.{asked, each_claims, each_at, each_of, judge_pa
 use Rattle.rules.proofs.SumLaws.{sum_none}
 use Rattle.rules.proofs.Sheets.SoundLaws.{row_of}
 use Rattle.rules.proofs.RoundSound.{none_sound}
-use Rattle.rules.proofs.JudgeLaws.{judge_map, number_claims}
+use Rattle.rules.proofs.JudgeLaws.{judge_map, answer_claims}
 
 abbrev fresh_outcome : ℕ → ℕ → List ℕ → Outcome
-fresh_outcome m d ps = record { answer = 0; board = fresh m d ps }
+fresh_outcome m d ps = record { answer = Ok tt; board = fresh m d ps }
 
 -- an accepted opening: its checks held, and its board is the fresh one
-pub opening_passed : (m d : ℕ) (ps : List ℕ) → (opening m d ps).answer ≡ 0 → Claims (asked (opening_checks m d ps))
+pub opening_passed : (m d : ℕ) (ps : List ℕ) → number_of (opening m d ps).answer ≡ 0 → Claims (asked (opening_checks m d ps))
 unfolding opening
 opening_passed m d ps e =
-    number_claims (opening_checks m d ps) (omega arith) (sym (judge_map (λ (o : Outcome). o.answer) refused_by (opening_checks m d ps) (fresh_outcome m d ps)) ∙ e)
+    answer_claims (opening_checks m d ps) (sym (judge_map (λ (o : Outcome). o.answer) refused_by (opening_checks m d ps) (fresh_outcome m d ps)) ∙ accepted_is (opening m d ps).answer e)
 
-pub opening_fresh : (m d : ℕ) (ps : List ℕ) → Claims (asked (opening_checks m d ps)) → opening m d ps ≡ record { answer = 0; board = fresh m d ps }
+pub opening_fresh : (m d : ℕ) (ps : List ℕ) → Claims (asked (opening_checks m d ps)) → opening m d ps ≡ record { answer = Ok tt; board = fresh m d ps }
 unfolding opening
 opening_fresh m d ps c = judge_passed refused_by (opening_checks m d ps) (fresh_outcome m d ps) c
 
 -- no round is open on it
-pub opening_rounds : (m d : ℕ) (ps : List ℕ) → (opening m d ps).answer ≡ 0 → (opening m d ps).board.rounds ≡ no_round
+pub opening_rounds : (m d : ℕ) (ps : List ℕ) → number_of (opening m d ps).answer ≡ 0 → (opening m d ps).board.rounds ≡ no_round
 unfolding fresh
 opening_rounds m d ps e = ap (λ (o : Outcome). o.board.rounds) (opening_fresh m d ps (opening_passed m d ps e))
 

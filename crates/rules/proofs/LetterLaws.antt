@@ -6,6 +6,8 @@ use Prim.Native.Nat.{ℕ, zero, suc, ◌+◌, ◌<◌, ◌^◌}
 use native.Mathlib.Omega.{arith}
 use lib.ListN.{length, drop, get_or, drop_of_length-le}
 use lib.Seq.{drop-cons}
+use Rattle.std.specs.Prelude.{Err}
+use Rattle.refusals.specs.declared.Refusal.TheVariants.{NotSound}
 use Rattle.rules.specs.Sound.{sound}
 use Rattle.rules.specs.Actions.{action_of}
 use Rattle.rules.specs.Letters.{Field, unit_field, other_field, slot_field, Letter, letters, read, with_field, values_of, record_from, used_fields, used, slot_of}
@@ -47,7 +49,7 @@ sound_step_used b r =
 
 pub step_used : (b : Board) (r : StepRecord) → step b r ≡ step b (used r)
 unfolding step
-step_used b r = ap (λ (o : Outcome). cond (sound b) o (record { answer = 30; board = b })) (sound_step_used b r)
+step_used b r = ap (λ (o : Outcome). cond (sound b) o (record { answer = Err NotSound; board = b })) (sound_step_used b r)
 
 -- ---- a value for each letter, which is a field's
 pub letter_values_length : (r : StepRecord) (ls : List Letter) → length (values_of r ls) ≡ length ls

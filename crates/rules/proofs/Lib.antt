@@ -19,7 +19,6 @@ pub mod Theorem
 pub mod LongestTheorem
 pub mod VerdictLaws
 pub mod LetterLaws
-pub mod AnswerLaws
 pub mod ExchangeLaws
 pub mod OrderLaws
 pub mod EitherOrder

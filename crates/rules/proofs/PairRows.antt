@@ -5,6 +5,7 @@ use mathlib.Core.Bool.{true}
 use Prim.Native.Nat.{ℕ}
 use lib.Dec.{eqb}
 use borrow.Author.Tests.{eqb-false}
+use Rattle.refusals.specs.Numbers.{number_of}
 use Rattle.rules.specs.Facts.{Fact, equal, holds, fails, Claims, tests, Each, each, same_list}
 use Rattle.rules.specs.Effects.{record_rule}
 use Rattle.rules.specs.Sheets.Steps.{effect, applied, sound_step as sheet_sound_step}
@@ -27,13 +28,13 @@ use Rattle.rules.specs.Records.{Board, StepRecord, Outcome}
 
 -- ---- tests that compute, and what they show
 kept_row : Board → StepRecord → List Fact
-kept_row b r = equal (sound_step b r).answer 0 ∷ equal (sound_step b r).board.debt b.debt ∷ []
+kept_row b r = equal (number_of (sound_step b r).answer) 0 ∷ equal (sound_step b r).board.debt b.debt ∷ []
 
 kept_right : (b : Board) (r : StepRecord) → Sound b → tests (kept_row b r) ≡ true → DebtKept b r
 unfolding kept_row
 kept_right b r h e =
     let c = claims (kept_row b r) e in
-    record { accepted = ap (λ (o : Outcome). o.answer) (step_sound b r h) ∙ c.0; debt = ap (λ (o : Outcome). o.board.debt) (step_sound b r h) ∙ c.1.0 }
+    record { accepted = ap (λ (o : Outcome). number_of o.answer) (step_sound b r h) ∙ c.0; debt = ap (λ (o : Outcome). o.board.debt) (step_sound b r h) ∙ c.1.0 }
 
 then_kept : (b : Board) (q r : StepRecord) → Sound b → tests (kept_row (sound_step b q).board r) ≡ true → DebtKept (step b q).board r
 then_kept b q r h e =
@@ -80,7 +81,7 @@ shows_right b q r (owes ks) h c = (
 )
 
 pair_row : Pair → List Fact
-pair_row p = equal (pair_opened p).answer 0 ∷ shows_row (quick_after (pair_opened p).board p.before) p.one p.two p.shows
+pair_row p = equal (number_of (pair_opened p).answer) 0 ∷ shows_row (quick_after (pair_opened p).board p.before) p.one p.two p.shows
 
 pairs_right : (ps : List Pair) → Each (λ i p. pair_row p) ps → AllShown ps
 unfolding Each pair_row

@@ -6,6 +6,7 @@ use mathlib.Core.List.{List, [], ◌∷◌}
 use Prim.Native.Nat.{ℕ, ◌+◌}
 use native.Mathlib.Omega.{arith}
 use lib.Dec.{eqb}
+use Rattle.refusals.specs.Numbers.{number_of}
 use Rattle.rules.specs.Events.{after_all, accepts, tally_all, DrainOf}
 use Rattle.rules.specs.Boards.{view}
 use Rattle.rules.specs.Sound.{Sound}
@@ -37,7 +38,7 @@ visit_view b u = by_visit (visit_tells b u)
   where
     by_visit : VisitTells b u → view (visit b u).board ≡ view b
     by_visit (visited s c e) = ap (λ (o : Visited). view o.board) e
-    by_visit (unvisited k l e) = ap (λ (o : Visited). view o.board) e
+    by_visit (unvisited k e) = ap (λ (o : Visited). view o.board) e
 
 -- ---- a list of events
 -- the steps among them
@@ -63,7 +64,7 @@ module _ (count : Sheet → StepRecord → ℕ) where
   unfolding tally_all
   shown_tally b [] h = refl
   shown_tally b (takes r ∷ es) h =
-      ap (λ (k : ℕ). cond (eqb (step b r).answer 0) (count (view b) r) 0 + k) (shown_tally (step b r).board es (step_keeps_sound b r h) ∙ ap (λ (c : Sheet). tally_all sheet_steps count c (steps_of es)) (step_view b r h))
+      ap (λ (k : ℕ). cond (eqb (number_of (step b r).answer) 0) (count (view b) r) 0 + k) (shown_tally (step b r).board es (step_keeps_sound b r h) ∙ ap (λ (c : Sheet). tally_all sheet_steps count c (steps_of es)) (step_view b r h))
       ∙ ap (λ (k : ℕ). cond (eqb k 0) (count (view b) r) 0 + tally_all sheet_steps count (sheet_step (view b) r).sheet (steps_of es)) (answer_shown b r h)
   shown_tally b (begins ∷ es) h =
       nothing (accepts events b begins) _ ∙ shown_tally (begin b).board es (event_keeps_sound b begins h) ∙ ap (λ (c : Sheet). tally_all sheet_steps count c (steps_of es)) (begin_view b h)

@@ -7,6 +7,7 @@ use native.Mathlib.Omega.{arith}
 use lib.ListN.{length, take}
 use lib.Seq.{take-nil, take-length, append_snoc}
 use borrow.Author.Tests.{eq-eqb}
+use Rattle.std.specs.Prelude.{Option, Some, None}
 use Rattle.rules.specs.Facts.{Claims}
 use Rattle.rules.specs.Events.{Events, after_all, accepts, tally_all}
 use Rattle.rules.specs.Rounds.{Seen, is_open, unmarked, no_round, begun, visit_checks, tallied, left_of, rounds_after, found}
@@ -14,7 +15,7 @@ use Rattle.rules.proofs.FactLaws.{true_not_false, asked}
 use Rattle.rules.proofs.EventLaws.{after_append, list_keeps}
 use Rattle.rules.proofs.MarkLaws.{both_sums, none_marked, unmarked_grows}
 use Rattle.rules.proofs.RoundTotals.{left_by, Look, Still, Fair, Stepped, Unseen, still_unseen, itself, still_stays, RoundCounted, counted_begun, counted_step, level, Exact, less, counted_visit, counted_all, exact_visit, quiet_level, exact_quiet}
-use Rattle.rules.specs.Records.{Round, None, One, Two, Rounds, AllQuiet, Unsettled}
+use Rattle.rules.specs.Records.{Round, One, Two, Rounds, AllQuiet, Unsettled}
 
 module _ {S E : Type 0} (ev : Events S E) (look : S → Look) (visits : ℕ → E) (starts : S → E → ℕ) where
   -- what an event does: it is refused, or an accepted step, an accepted start, a beginning, an accepted visit
@@ -31,8 +32,8 @@ module _ {S E : Type 0} (ev : Events S E) (look : S → Look) (visits : ℕ → 
     pub last : ℕ
     pub since : List E
     pub whole : es ≡ before ++ visits last ∷ since
-    pub round_one : (look (after_all ev f before)).rounds.round ≡ One
-    pub round_two : (k : ℕ) → (look (after_all ev f (before ++ visits last ∷ take k since))).rounds.round ≡ Two
+    pub round_one : (look (after_all ev f before)).rounds.round ≡ Some One
+    pub round_two : (k : ℕ) → (look (after_all ev f (before ++ visits last ∷ take k since))).rounds.round ≡ Some Two
     pub still : (k : ℕ) → Still (look (after_all ev f (before ++ visits last ∷ take k since)))
 
   -- ---- lists, one event longer: the event meets the state that the list left
@@ -51,16 +52,16 @@ module _ {S E : Type 0} (ev : Events S E) (look : S → Look) (visits : ℕ → 
   pub now_still : {f : S} {es : List E} → StillSince f es → Still (look (after_all ev f es))
   now_still {f} {es} h = subst (λ (ys : List E). Still (look (after_all ev f ys))) (ap (λ (ys : List E). h.before ++ visits h.last ∷ ys) (take-length h.since) ∙ sym h.whole) (h.still (length h.since))
 
-  module _ (f : S) (es : List E) (e : E) (two : (look (ev.next (after_all ev f es) e)).rounds.round ≡ Two) (calm : Still (look (ev.next (after_all ev f es) e))) where
+  module _ (f : S) (es : List E) (e : E) (two : (look (ev.next (after_all ev f es) e)).rounds.round ≡ Some Two) (calm : Still (look (ev.next (after_all ev f es) e))) where
     abbrev Holds : List E → Type 0
-    Holds ys = ((look (after_all ev f ys)).rounds.round ≡ Two) × Still (look (after_all ev f ys))
+    Holds ys = ((look (after_all ev f ys)).rounds.round ≡ Some Two) × Still (look (after_all ev f ys))
 
     -- the list with one event more, however it is cut
     at_end : (ys : List E) → es ++ e ∷ [] ≡ ys → Holds ys
     at_end ys q = subst Holds q (rw (after_one f es e) (two, calm))
 
     -- the visit that opens round two
-    opened : (u : ℕ) → e ≡ visits u → (look (after_all ev f es)).rounds.round ≡ One → StillSince f (es ++ e ∷ [])
+    opened : (u : ℕ) → e ≡ visits u → (look (after_all ev f es)).rounds.round ≡ Some One → StillSince f (es ++ e ∷ [])
     opened u q one = record { before = es; last = u; since = []; whole = longer; round_one = one; round_two = λ k. (all k).0; still = λ k. (all k).1 }
       where
         longer : es ++ e ∷ [] ≡ es ++ visits u ∷ []
@@ -80,10 +81,10 @@ module _ {S E : Type 0} (ev : Events S E) (look : S → Look) (visits : ℕ → 
         all = parts_longer (λ ys. Holds (h.before ++ visits h.last ∷ ys)) h.since e (λ k. (h.round_two k, h.still k)) (at_end _ longer)
 
   -- ---- 1: what is known behind a list, by the round that is open
-  abbrev KnownAs : S → List E → Seen → Rounds → Round → Type 0
+  abbrev KnownAs : S → List E → Seen → Rounds → Option Round → Type 0
   KnownAs f es v k None = Unit {0}
-  KnownAs f es v k One = RoundCounted v k
-  KnownAs f es v k Two = level v k ≤ k.processed → StillSince f es
+  KnownAs f es v k (Some One) = RoundCounted v k
+  KnownAs f es v k (Some Two) = level v k ≤ k.processed → StillSince f es
 
   abbrev Known : S → List E → Type 0
   Known f es = KnownAs f es (look (after_all ev f es)).seen (look (after_all ev f es)).rounds (look (after_all ev f es)).rounds.round
@@ -100,11 +101,11 @@ module _ {S E : Type 0} (ev : Events S E) (look : S → Look) (visits : ℕ → 
     known_by v k p q h = rw (after_one f es e, p, q) h
 
     -- a step: the level grows, and from a still state it is unseen
-    step_known : Fair (look here) → Fair (look there) → Stepped (look here) (look there) → (r : Round) → (look here).rounds.round ≡ r
+    step_known : Fair (look here) → Fair (look there) → Stepped (look here) (look there) → (r : Option Round) → (look here).rounds.round ≡ r
         → KnownAs f es (look here).seen (look here).rounds r → KnownAs f (es ++ e ∷ []) (look there).seen (look here).rounds r
     step_known fs ft p None q h = tt
-    step_known fs ft p One q h = counted_step (look here) (look there) (look here).rounds p h
-    step_known fs ft p Two q h = λ l.
+    step_known fs ft p (Some One) q h = counted_step (look here) (look there) (look here).rounds p h
+    step_known fs ft p (Some Two) q h = λ l.
         let since = h (omega (arith, unmarked_grows (look here).seen.created (look there).seen.created (look here).rounds.visited p.created_grows)) in
         extended f es e (ap (λ (k : Rounds). k.round) p.same_rounds ∙ q) (still_unseen (now_still since) (still_stays (look here) (look there) p fs ft (now_still since))) since
 
@@ -113,16 +114,16 @@ module _ {S E : Type 0} (ev : Events S E) (look : S → Look) (visits : ℕ → 
       Left k = (look there).rounds.round ≡ k.round → KnownAs f (es ++ e ∷ []) (look here).seen k k.round
 
       -- a visit: the level stays, and the last visit of round one opens round two
-      visit_known : (r : Round) → (look here).rounds.round ≡ r → is_open r ≡ true → KnownAs f es (look here).seen (look here).rounds r
+      visit_known : (r : Option Round) → (look here).rounds.round ≡ r → is_open r ≡ true → KnownAs f es (look here).seen (look here).rounds r
           → Left (left_of (look here).seen.n (tallied (look here).seen (look here).rounds u r))
       visit_known None q o h = absurd (true_not_false (sym o))
-      visit_known One q o h =
+      visit_known (Some One) q o h =
           let now = counted_visit (look here) u fs c h in
-          left_by Left (look here).seen.n (tallied (look here).seen (look here).rounds u One)
+          left_by Left (look here).seen.n (tallied (look here).seen (look here).rounds u (Some One))
           (λ all two l. opened f es e two (still_unseen (counted_all (look here) u fs c now all (omega (arith, both_sums (look here).seen.created unmarked, none_marked (look here).seen.created))) w) u same q)
           (λ one. now)
-      visit_known Two q o h =
-          left_by Left (look here).seen.n (tallied (look here).seen (look here).rounds u Two) (λ all none. tt)
+      visit_known (Some Two) q o h =
+          left_by Left (look here).seen.n (tallied (look here).seen (look here).rounds u (Some Two)) (λ all none. tt)
           (λ two l. let since = h (omega (arith, less (look here) u fs c (look here).seen.created)) in extended f es e two (still_unseen (now_still since) w) since)
 
     -- a refused event is a step; a start ends the rounds, a beginning opens round one

@@ -7,12 +7,13 @@ use native.Mathlib.Omega.{arith}
 use lib.ListN.{length, get_or, set, length-set, get_or-replicate}
 use lib.Dec.{ltb}
 use borrow.Author.Tests.{lt-ltb}
+use Rattle.std.specs.Prelude.{Option, Some, None}
 use Rattle.rules.specs.Facts.{fails, Claims, tests, Each}
 use Rattle.rules.specs.Rounds.{Seen, is_open, unmarked, no_round, marked_sum, mark_row, totals_row, SoundRounds, rounds_row, begun, visit_checks, tallied, left_of, rounds_after}
 use Rattle.rules.proofs.FactLaws.{true_not_false, by_test, asked, claims, claims_tested, each_claims, each_tested, each_of, each_set}
 use Rattle.rules.proofs.MarkLaws.{both_sums, whole_length, marked_more, marked_grows, whole_grows}
 use Rattle.rules.proofs.RoundTotals.{left_by}
-use Rattle.rules.specs.Records.{Round, None, One, Two, Rounds}
+use Rattle.rules.specs.Records.{Round, One, Two, Rounds}
 
 -- ---- the test says true exactly where the rounds are sound
 pub rounds_claims : (v : Seen) (k : Rounds) → tests (rounds_row v k) ≡ true → SoundRounds v k
@@ -41,10 +42,10 @@ begun_sound v = record { long = refl; marks = unmarked_rows v.n true; totals = (
 pub grown_sound : (v w : Seen) (k : Rounds) → w.n ≡ v.n → ((i : ℕ) → v.created i ≤ w.created i) → ((i : ℕ) → v.processed i ≤ w.processed i) → SoundRounds v k → SoundRounds w k
 grown_sound v w k same created processed h = record { long = h.long; marks = rw same h.marks; totals = by_round k.round h.totals }
   where
-    by_round : (r : Round) → Claims (totals_row v k r) → Claims (totals_row w k r)
+    by_round : (r : Option Round) → Claims (totals_row v k r) → Claims (totals_row w k r)
     by_round None p = p
-    by_round One p = (omega (arith, p, marked_grows v.processed w.processed k.visited processed), (p.1.0, tt))
-    by_round Two p = (
+    by_round (Some One) p = (omega (arith, p, marked_grows v.processed w.processed k.visited processed), (p.1.0, tt))
+    by_round (Some Two) p = (
       omega (arith, p, whole_grows v.processed w.processed k.visited processed),
       (omega (arith, p, marked_grows v.created w.created k.visited created), tt),
     )
@@ -60,17 +61,17 @@ module _ (v : Seen) (k : Rounds) (u : ℕ) (h : SoundRounds v k) (few : v.n ≤ 
   as_long : length (set k.visited u true) ≡ 64
   as_long = length-set k.visited u true ∙ h.long
 
-  visit_sound : (r : Round) → is_open r ≡ true → Each (mark_row v.n (is_open r)) k.visited → Claims (totals_row v k r) → SoundRounds v (left_of v.n (tallied v k u r))
+  visit_sound : (r : Option Round) → is_open r ≡ true → Each (mark_row v.n (is_open r)) k.visited → Claims (totals_row v k r) → SoundRounds v (left_of v.n (tallied v k u r))
   visit_sound None o m p = absurd (true_not_false (sym o))
-  visit_sound One o m p =
-      left_by (SoundRounds v) v.n (tallied v k u One)
+  visit_sound (Some One) o m p =
+      left_by (SoundRounds v) v.n (tallied v k u (Some One))
       (λ all.
       let whole = both_sums v.processed (set k.visited u true) in
       let same = whole_length v.processed (set k.visited u true) unmarked as_long in
       record { long = refl; marks = unmarked_rows v.n true; totals = (omega (arith, p, more v.processed, whole, same), (zero-le, tt)) })
       (record { long = as_long; marks = marked_rows m; totals = (omega (arith, p, more v.processed), (p.1.0, tt)) })
-  visit_sound Two o m p =
-      left_by (SoundRounds v) v.n (tallied v k u Two) (λ all. none_sound v)
+  visit_sound (Some Two) o m p =
+      left_by (SoundRounds v) v.n (tallied v k u (Some Two)) (λ all. none_sound v)
       (record { long = as_long; marks = marked_rows m; totals = (omega (arith, p, whole_length v.processed (set k.visited u true) k.visited (length-set k.visited u true)), (omega (arith, p, more v.created), tt)) })
 
   pub visited_sound : SoundRounds v (rounds_after v k u)

@@ -10,12 +10,13 @@ use lib.ListN.{length, get_or, set, length-set, get_or-replicate}
 use lib.Seq.{get_or-set_other}
 use lib.Dec.{eqb}
 use borrow.Author.Tests.{eqb-true, eq-eqb}
+use Rattle.std.specs.Prelude.{Option, Some, None}
 use Rattle.rules.specs.Facts.{Claims}
 use Rattle.rules.specs.Rounds.{Seen, is_open, unmarked, marked_sum, whole_sum, begun, visit_checks, tallied, all_marked, closed, left_of, found_of, found}
 use Rattle.rules.proofs.FactLaws.{true_not_false, true_or_not, by_test, asked}
 use Rattle.rules.proofs.Sheets.SoundLaws.{below_or_not}
 use Rattle.rules.proofs.MarkLaws.{unmarked_sum, none_marked, marked_more, unmarked_less, marked_grows, whole_grows, marked_tight, whole_tight, marked_at, unmarked_none, marked_whole}
-use Rattle.rules.specs.Records.{Round, None, One, Two, Rounds, Finding, NoVerdict, AllQuiet, Unsettled}
+use Rattle.rules.specs.Records.{Round, One, Two, Rounds, Finding, NoVerdict, AllQuiet, Unsettled}
 
 -- ---- what a visit leaves and finds
 -- what it leaves of the rounds, by whether every unit is visited then
@@ -23,17 +24,17 @@ pub left_by : (P : Rounds → Type 0) (n : ℕ) (k : Rounds) → (all_marked n k
 left_by P n k f g = by_test (λ t. P (cond t (closed k k.round) k)) (all_marked n k.visited) f (λ e. g)
 
 -- a verdict is given by the last visit of round two
-record ByTotals (v : Seen) (k : Rounds) (u : ℕ) (x : Finding) (r : Round) : Type 0 where
-  pub in_two : r ≡ Two
+record ByTotals (v : Seen) (k : Rounds) (u : ℕ) (x : Finding) (r : Option Round) : Type 0 where
+  pub in_two : r ≡ Some Two
   pub all_visited : all_marked v.n (set k.visited u true) ≡ true
   pub by_totals : cond (eqb k.processed (k.created + v.created u)) AllQuiet Unsettled ≡ x
 
-given_by_totals : (v : Seen) (k : Rounds) (u : ℕ) (x : Finding) (r : Round) → is_open r ≡ true → (NoVerdict ≡ x → ⊥) → found_of v.n (tallied v k u r) ≡ x → ByTotals v k u x r
+given_by_totals : (v : Seen) (k : Rounds) (u : ℕ) (x : Finding) (r : Option Round) → is_open r ≡ true → (NoVerdict ≡ x → ⊥) → found_of v.n (tallied v k u r) ≡ x → ByTotals v k u x r
 given_by_totals v k u x None o n e = absurd (true_not_false (sym o))
-given_by_totals v k u x One o n e =
+given_by_totals v k u x (Some One) o n e =
     absurd (by_test (λ t. cond t NoVerdict NoVerdict ≡ x → ⊥) (all_marked v.n (set k.visited u true)) (λ q. n) (λ q. n) e)
-given_by_totals v k u x Two o n e =
-    by_test (λ t. cond t (cond (eqb k.processed (k.created + v.created u)) AllQuiet Unsettled) NoVerdict ≡ x → ByTotals v k u x Two) (all_marked v.n (set k.visited u true))
+given_by_totals v k u x (Some Two) o n e =
+    by_test (λ t. cond t (cond (eqb k.processed (k.created + v.created u)) AllQuiet Unsettled) NoVerdict ≡ x → ByTotals v k u x (Some Two)) (all_marked v.n (set k.visited u true))
     (λ q f. record { in_two = refl; all_visited = q; by_totals = f }) (λ q f. absurd (n f)) e
 
 -- quiet says that the totals are equal
@@ -134,10 +135,10 @@ abbrev pub level : Seen → Rounds → ℕ
 level v k = k.created + unmarked_sum v.created k.visited
 
 -- ---- the totals since a beginning in a still state, by the round that is open
-abbrev pub Exact : Seen → Rounds → Round → Type 0
+abbrev pub Exact : Seen → Rounds → Option Round → Type 0
 Exact v k None = Unit {0}
-Exact v k One = k.processed ≡ marked_sum v.processed k.visited
-Exact v k Two = (k.processed ≡ whole_sum v.processed unmarked) × (k.created ≡ marked_sum v.created k.visited)
+Exact v k (Some One) = k.processed ≡ marked_sum v.processed k.visited
+Exact v k (Some Two) = (k.processed ≡ whole_sum v.processed unmarked) × (k.created ≡ marked_sum v.created k.visited)
 
 -- ---- an accepted visit
 module _ (x : Look) (u : ℕ) (fs : Fair x) (c : Claims (asked (visit_checks x.seen x.rounds u))) where
@@ -158,7 +159,7 @@ module _ (x : Look) (u : ℕ) (fs : Fair x) (c : Claims (asked (visit_checks x.s
   whole_of count past all = marked_whole x.seen.n marks all count past (length-set x.rounds.visited u true ∙ fs.long)
 
   -- the gap stays, and the unit is not active
-  pub counted_visit : RoundCounted x.seen x.rounds → RoundCounted x.seen (tallied x.seen x.rounds u One)
+  pub counted_visit : RoundCounted x.seen x.rounds → RoundCounted x.seen (tallied x.seen x.rounds u (Some One))
   counted_visit h = record {
     at_most = omega (arith, more x.seen.processed, h.at_most);
     none_active = λ g i l m. by_place (omega (arith, more x.seen.processed)) i (omega (arith, length-set x.rounds.visited u true)) m (ℕ_discrete i u);
@@ -169,7 +170,7 @@ module _ (x : Look) (u : ℕ) (fs : Fair x) (c : Claims (asked (visit_checks x.s
       by_place g i l m (no e) = h.none_active g i l (sym (get_or-set_other x.rounds.visited u i true false e) ∙ m)
 
   -- all are visited, and no more was created than the total says: there is no gap, and no work under way
-  pub counted_all : RoundCounted x.seen (tallied x.seen x.rounds u One) → all_marked x.seen.n marks ≡ true → whole_sum x.seen.created unmarked ≤ x.rounds.processed + x.seen.processed u → Still x
+  pub counted_all : RoundCounted x.seen (tallied x.seen x.rounds u (Some One)) → all_marked x.seen.n marks ≡ true → whole_sum x.seen.created unmarked ≤ x.rounds.processed + x.seen.processed u → Still x
   counted_all h all l = record {
     none_active = λ i. below_or_not i x.seen.n (λ b. h.none_active (omega (arith, sums, fs.balance)) i (short i b) (marked_at x.seen.n marks all i b (short i b))) (fs.past_active i);
     no_work = omega (arith, sums, fs.balance, h.at_most);
@@ -182,16 +183,16 @@ module _ (x : Look) (u : ℕ) (fs : Fair x) (c : Claims (asked (visit_checks x.s
       short i b = omega (arith, b, fs.few, fs.long, length-set x.rounds.visited u true)
 
   -- the total and the sum grow by the same count; the last visit of round one makes its sum the whole
-  pub exact_visit : (r : Round) → is_open r ≡ true → Exact x.seen x.rounds r → Exact x.seen (left_of x.seen.n (tallied x.seen x.rounds u r)) (left_of x.seen.n (tallied x.seen x.rounds u r)).round
+  pub exact_visit : (r : Option Round) → is_open r ≡ true → Exact x.seen x.rounds r → Exact x.seen (left_of x.seen.n (tallied x.seen x.rounds u r)) (left_of x.seen.n (tallied x.seen x.rounds u r)).round
   exact_visit None o h = absurd (true_not_false (sym o))
-  exact_visit One o h =
-      left_by (λ k. Exact x.seen k k.round) x.seen.n (tallied x.seen x.rounds u One)
+  exact_visit (Some One) o h =
+      left_by (λ k. Exact x.seen k k.round) x.seen.n (tallied x.seen x.rounds u (Some One))
       (λ all. (omega (arith, more x.seen.processed, whole_of x.seen.processed fs.past_processed all), sym (none_marked x.seen.created)))
       (omega (arith, more x.seen.processed))
-  exact_visit Two o h = left_by (λ k. Exact x.seen k k.round) x.seen.n (tallied x.seen x.rounds u Two) (λ all. tt) (h.0, omega (arith, h, more x.seen.created))
+  exact_visit (Some Two) o h = left_by (λ k. Exact x.seen k k.round) x.seen.n (tallied x.seen x.rounds u (Some Two)) (λ all. tt) (h.0, omega (arith, h, more x.seen.created))
 
   -- quiet: the level is round one's total, since no unit is left
-  pub quiet_level : found x.seen x.rounds u ≡ AllQuiet → (x.rounds.round ≡ Two) × (level x.seen x.rounds ≤ x.rounds.processed)
+  pub quiet_level : found x.seen x.rounds u ≡ AllQuiet → (x.rounds.round ≡ Some Two) × (level x.seen x.rounds ≤ x.rounds.processed)
   unfolding found
   quiet_level e =
       let d = given_by_totals x.seen x.rounds u AllQuiet x.rounds.round c.1.0 (λ z. let o : ◌≡◌ {A = ℕ} 0 1 = cc in omega arith) e in
@@ -202,6 +203,6 @@ module _ (x : Look) (u : ℕ) (fs : Fair x) (c : Claims (asked (visit_checks x.s
   unfolding found
   exact_quiet h now e =
       let d = given_by_totals x.seen x.rounds u Unsettled x.rounds.round c.1.0 (λ z. let o : ◌≡◌ {A = ℕ} 0 1 = cc in omega arith) e in
-      let exact : Exact x.seen x.rounds Two = subst (Exact x.seen x.rounds) d.in_two now in
+      let exact : Exact x.seen x.rounds (Some Two) = subst (Exact x.seen x.rounds) d.in_two now in
       let equal : x.rounds.processed ≡ x.rounds.created + x.seen.created u = omega (arith, exact, more x.seen.created, whole_of x.seen.created fs.past_created d.all_visited, fs.balance, h.no_work) in
       let o : ◌≡◌ {A = ℕ} 0 1 = cc (d.by_totals, eq-eqb _ _ equal) in omega arith

@@ -5,6 +5,8 @@ use Prim.Native.Nat.{ℕ, ◌+◌, ◌*◌}
 use native.Mathlib.Nat.{zero-mul}
 use native.Mathlib.Omega.{arith}
 use lib.Seq.{set-get_or}
+use Rattle.std.specs.Prelude.{Ok}
+use Rattle.refusals.specs.Numbers.{number_of}
 use Rattle.rules.specs.Facts.{sum_of, one_if}
 use Rattle.rules.specs.Records.{is_active, is_waiting, is_work, is_return, blank_unit, blank_slot, State, Kind, Start, Move, Board, StepRecord, Outcome}
 use Rattle.rules.specs.Events.{Events, after_all, DrainOf}
@@ -36,7 +38,7 @@ use Rattle.rules.proofs.Sheets.DrainLaws as draining
 use Rattle.rules.proofs.Sheets.Theorem.{sheet_guarantee}
 
 -- the board of an accepted opening is sound and has nothing out
-pub opening_sound : (m d : ℕ) (ps : List ℕ) → (opening m d ps).answer ≡ 0 → (Sound (opening m d ps).board) × ((opening m d ps).board.debt ≡ 0)
+pub opening_sound : (m d : ℕ) (ps : List ℕ) → number_of (opening m d ps).answer ≡ 0 → (Sound (opening m d ps).board) × ((opening m d ps).board.debt ≡ 0)
 unfolding fresh
 opening_sound m d ps e =
     let c = opening_passed m d ps e in
@@ -81,7 +83,7 @@ unfolding after_all taking
 taking_after b [] = refl
 taking_after b (r ∷ rs) = taking_after (step b r).board rs
 
-pub steps_guaranteed : (m d : ℕ) (ps : List ℕ) (rs : List StepRecord) → (opening m d ps).answer ≡ 0 → Guaranteed (opening m d ps).board (taking rs) (after (opening m d ps).board rs)
+pub steps_guaranteed : (m d : ℕ) (ps : List ℕ) (rs : List StepRecord) → number_of (opening m d ps).answer ≡ 0 → Guaranteed (opening m d ps).board (taking rs) (after (opening m d ps).board rs)
 unfolding GuaranteeOf
 steps_guaranteed m d ps rs e = subst (λ (c : Board). Guaranteed (opening m d ps).board (taking rs) c) (taking_after (opening m d ps).board rs) (guarantee m d ps (taking rs) e)
 
@@ -131,7 +133,7 @@ moves_keep_verdict b r m =
     accepted_or_not steps b r
     (λ z.
     let h : Sound b = accepted_sound b r z in
-    verdict_sound (step b r).board (step_keeps_sound b r h) ∙ ap (λ (c : Board). told_from c.debt) (moves_change_parent b r m z) ∙ sym (verdict_sound b h))
+    verdict_sound (step b r).board (step_keeps_sound b r h) ∙ ap (λ (c : Board). Ok (told_from c.debt)) (moves_change_parent b r m z) ∙ sym (verdict_sound b h))
     (λ n. ap verdict (refused_keeps b r n))
 
 pub accepted_changes : AcceptedChanges

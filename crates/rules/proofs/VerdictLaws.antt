@@ -7,11 +7,15 @@ use native.Mathlib.Omega.{arith}
 use lib.ListN.{length, get_or}
 use lib.Dec.{eqb}
 use lib.Seq.{append_snoc}
+use Rattle.refusals.proofs.NumberLaws.{refused_above_zero}
+use Rattle.refusals.specs.declared.Refusal.{Refusal}
+use Rattle.std.specs.Prelude.{Result, Ok}
+use Rattle.refusals.specs.Numbers.{number_of}
 use Rattle.rules.specs.Facts.{one_if, Claims}
 use Rattle.rules.specs.Records.{is_active, is_work, blank_slot, Start, Rounds, Board, StepRecord, Finding, AllQuiet, Unsettled, Outcome, Visited}
 use Rattle.rules.specs.Actions.{action_of, is_action}
 use Rattle.rules.specs.Events.{after_all}
-use Rattle.rules.specs.Rounds.{unmarked, whole_sum, begun, visit_checks, tallied, found_of, found, finding_number}
+use Rattle.rules.specs.Rounds.{unmarked, whole_sum, begun, visit_checks, tallied, found_of, found}
 use Rattle.rules.specs.Sheets.Sheet.{unit_at, slot_at}
 use Rattle.rules.specs.Sheets.Sound.{total, work_under_way}
 use Rattle.rules.specs.Sheets.Steps.{step as sheet_step}
@@ -87,8 +91,8 @@ fair b h = record {
 }
 
 -- ---- what an event on a sound board does
-module _ (b : Board) (r : StepRecord) (h : Sound b) (z : (step b r).answer ≡ 0) where
-  sheet_zero : (sheet_step (view b) r).answer ≡ 0
+module _ (b : Board) (r : StepRecord) (h : Sound b) (z : number_of (step b r).answer ≡ 0) where
+  sheet_zero : number_of (sheet_step (view b) r).answer ≡ 0
   sheet_zero = sym (answer_shown b r h) ∙ z
 
   taken : Happened b (takes r) (step b r).board
@@ -116,25 +120,25 @@ happens b (visits u) h = by_visit (visit_tells b u)
   where
     by_visit : VisitTells b u → Happened b (visits u) (visit b u).board
     by_visit (visited s c e) = subst (λ (o : Visited). Happened b (visits u) o.board) (sym e) (rounding.visited u refl c refl (record { same_seen = refl; same_work = refl }))
-    by_visit (unvisited k l e) = rounding.refused (ap (λ (o : Visited). o.board) e)
+    by_visit (unvisited k e) = rounding.refused (ap (λ (o : Visited). o.board) e)
 
 -- ---- an accepted visit, by what it found
-accepted_visit : (b : Board) (u : ℕ) (x : Finding) → (visit b u).finding ≡ x → finding_number x ≡ 0 → Asks b u × (finds b u ≡ x)
+accepted_visit : (b : Board) (u : ℕ) (x : Result Finding Refusal) → (visit b u).finding ≡ x → number_of x ≡ 0 → Asks b u × (Ok (finds b u) ≡ x)
 accepted_visit b u x e z = by_visit (visit_tells b u)
   where
-    by_visit : VisitTells b u → Asks b u × (finds b u ≡ x)
+    by_visit : VisitTells b u → Asks b u × (Ok (finds b u) ≡ x)
     by_visit (visited s c q) = (c, sym (ap (λ (o : Visited). o.finding) q) ∙ e)
-    by_visit (unvisited k l q) = absurd (omega (arith, l, ap finding_number (sym e ∙ ap (λ (o : Visited). o.finding) q), z))
+    by_visit (unvisited k q) = absurd (refused_above_zero k (ap (number_of {A = Finding}) (sym (ap (λ (o : Visited). o.finding) q) ∙ e) ∙ z))
 
 -- ---- 1
 pub quiet_tells : (b : Board) (u : ℕ) → QuietTells b u (visit b u).finding
 quiet_tells b u m d ps es o e q =
     let f : Board = (opening m d ps).board in
     let start = opening_sound m d ps o in
-    let a = accepted_visit b u AllQuiet q refl in
+    let a = accepted_visit b u (Ok AllQuiet) q refl in
     let c : Board = after_all events f es in
     let s = rounding.quiet_still events look visits starts_of Sound event_keeps_sound fair happens f es u start.0 (opening_rounds m d ps o)
-    (subst (λ (c : Board). Asks c u) e a.0) (subst (λ (c : Board). finds c u ≡ AllQuiet) e a.1) in
+    (subst (λ (c : Board). Asks c u) e a.0) (subst (λ (c : Board). finds c u ≡ AllQuiet) e (let found_quiet : ◌≡◌ {A = Result Finding Refusal} (Ok (finds b u)) (Ok AllQuiet) = a.1 in cc)) in
     record {
       before = s.before;
       last = s.last;
@@ -172,6 +176,6 @@ still_tells b u m d ps xs ys o e q n l =
     let a = accepted_visit b u (visit b u).finding refl l.accepted in
     let from-g : b ≡ after_all events g ys = e ∙ ap (after_all events f) (sym (append_snoc xs begins ys)) ∙ after_append events f (xs ++ begins ∷ []) ys in
     sym a.1
-    ∙ last_found b u l (λ z.
+    ∙ ap (λ (x : Finding). Ok x) (last_found b u l (λ z.
     rounding.still_quiet events look visits starts_of Sound event_keeps_sound fair happens g ys u (list_keeps events Sound event_keeps_sound f (xs ++ begins ∷ []) h) (begun_then f h xs) (still_of g q) n
-    (subst (λ (c : Board). Asks c u) from-g a.0) (subst (λ (c : Board). finds c u ≡ Unsettled) from-g z))
+    (subst (λ (c : Board). Asks c u) from-g a.0) (subst (λ (c : Board). finds c u ≡ Unsettled) from-g z)))

@@ -1,5 +1,6 @@
 -- Worked cases of the definitions: rows of one table, and a board that is stuck.
-use Rattle.std.specs.Prelude.{◌≡◌, true, false, ℕ, length, replicate}
+use Rattle.std.specs.Prelude.{◌≡◌, true, false, ℕ, length, replicate, Ok}
+use Rattle.refusals.specs.Numbers.{number, number_of}
 use mathlib.Core.List.{List, [], ◌∷◌}
 use Rattle.rules.specs.Facts.{judge}
 use Rattle.rules.specs.Records.{blank_unit, blank_slot, ceiling, Active, Work, Request, Action, Start, Send, UnitRecord, Slot, Board, StepRecord, Verdict, Working, Finished}
@@ -70,11 +71,11 @@ attains m d ps rs ds = bound_is m d ps rs ds (length ds)
 
 abbrev pub Right : Row → Type 0
 Right (shares w given) = share w ≡ given
-Right (judges debt x y made a k) = judge (λ j. j) (record_checks debt x y made a) 0 ≡ k
-Right (opens m d ps k) = (opening m d ps).answer ≡ k
-Right (runs m d ps rs ks v) = ((opening m d ps).answer ≡ 0) × (answers (opening m d ps).board rs ≡ ks) × (verdict (after (opening m d ps).board rs) ≡ v)
-Right (bound_is m d ps rs ds k) = ((opening m d ps).answer ≡ 0) × (Drained (after (opening m d ps).board rs) ds k)
-Right (longest m d ps rs s ds) = ((opening m d ps).answer ≡ 0) × (LongestShown (after (opening m d ps).board rs) s ds)
+Right (judges debt x y made a k) = judge number (record_checks debt x y made a) 0 ≡ k
+Right (opens m d ps k) = number_of (opening m d ps).answer ≡ k
+Right (runs m d ps rs ks v) = (number_of (opening m d ps).answer ≡ 0) × (answers (opening m d ps).board rs ≡ ks) × (verdict (after (opening m d ps).board rs) ≡ Ok v)
+Right (bound_is m d ps rs ds k) = (number_of (opening m d ps).answer ≡ 0) × (Drained (after (opening m d ps).board rs) ds k)
+Right (longest m d ps rs s ds) = (number_of (opening m d ps).answer ≡ 0) × (LongestShown (after (opening m d ps).board rs) s ds)
 
 abbrev pub AllRight : List Row → Type 0
 AllRight [] = Unit {0}
@@ -185,6 +186,6 @@ stuck_board =
 
 pub record Stuck (b : Board) : Type 0 where
   pub is_sound : Sound b
-  pub not_finished : verdict b ≡ Working
-  pub refused : (r : StepRecord) → (step b r).answer ≡ 0 → ⊥
-  pub grant_refused : (step b (deliver 0)).answer ≡ 36
+  pub not_finished : verdict b ≡ Ok Working
+  pub refused : (r : StepRecord) → number_of (step b r).answer ≡ 0 → ⊥
+  pub grant_refused : number_of (step b (deliver 0)).answer ≡ 36

@@ -1,5 +1,6 @@
 -- Facts as data, in two readings: what a fact claims, for proofs, and a test of it that computes. A rule is a row of facts.
 use Rattle.std.specs.Prelude.{◌≡◌, Bool, true, false, not, cond, ◌&&◌, List, [], ◌∷◌, ℕ, suc, ◌+◌, ◌≤◌, leb, eqb}
+use Rattle.refusals.specs.declared.Refusal.{Refusal}
 
 pub data Fact : Type 0 where
   below : ℕ → ℕ → Fact
@@ -56,11 +57,11 @@ same_list [] (d ∷ ds) = false
 same_list (c ∷ cs) [] = false
 same_list (c ∷ cs) (d ∷ ds) = eqb c d && same_list cs ds
 
--- a fact that a call asks for, and the number that refuses the call where the fact fails
+-- a fact that a call asks for, and what refuses the call where the fact fails
 pub data Check : Type 0 where
-  check : Fact → ℕ → Check
+  check : Fact → Refusal → Check
 
 -- what a call gives: the refusal by the first check that fails, else its result
-abbrev pub judge : {A : Type 0} → (ℕ → A) → List Check → A → A
+abbrev pub judge : {A : Type 0} → (Refusal → A) → List Check → A → A
 judge refused [] result = result
 judge refused (check f k ∷ cs) result = cond (test f) (judge refused cs result) (refused k)

@@ -1,5 +1,7 @@
 -- The guarantee: one claim about every accepted opening and every list of steps, beginnings and visits, in whatever order.
-use Rattle.std.specs.Prelude.{◌≡◌, List, ◌++◌, ◌↔◌, ℕ, ◌+◌, ◌*◌, ◌≤◌, ◌<◌, ◌^◌, length, set}
+use Rattle.std.specs.Prelude.{◌≡◌, List, ◌++◌, ◌↔◌, ℕ, ◌+◌, ◌*◌, ◌≤◌, ◌<◌, ◌^◌, length, set, Result, Ok}
+use Rattle.refusals.specs.declared.Refusal.{Refusal}
+use Rattle.refusals.specs.Numbers.{number_of}
 use Rattle.rules.specs.Records.{grant, Move, Board, StepRecord, Verdict, Finished}
 use Rattle.rules.specs.Actions.{action_of}
 use Rattle.rules.specs.Events.{Events, after_all, tally_all, DrainStepOf, DrainOf}
@@ -29,7 +31,7 @@ pub record Model (S : Type 0) : Type 1 where
   pub shows : S → Sheet
   pub Good : S → Type 0
   pub takes : Events S StepRecord
-  pub told : S → Verdict
+  pub told : S → Result Verdict Refusal
 
 abbrev pub sheets : Model Sheet
 sheets = record { shows = λ b. b; Good = SoundSheet; takes = sheet_steps; told = sheet_verdict }
@@ -47,7 +49,7 @@ pub record Longer {S : Type 0} (M : Model S) (b : S) : Type 0 where
 -- every drain from b is bounded, and until finished some step makes it one longer
 pub record DrainsEnd {S : Type 0} (M : Model S) (b : S) : Type 0 where
   pub bounded : (rs : List StepRecord) → DrainOf M.takes (λ c. undrained_count (M.shows c)) b rs → length rs ≤ drain_bound (M.shows b)
-  pub unstuck : (rs : List StepRecord) → DrainOf M.takes (λ c. undrained_count (M.shows c)) b rs → (M.told (after_all M.takes b rs) ≡ Finished → ⊥) → Longer M (after_all M.takes b rs)
+  pub unstuck : (rs : List StepRecord) → DrainOf M.takes (λ c. undrained_count (M.shows c)) b rs → (M.told (after_all M.takes b rs) ≡ Ok Finished → ⊥) → Longer M (after_all M.takes b rs)
 
 -- ---- over events of any kind, with what each counts for: starts, granted requests, and what unit 0 takes back
 pub record History (S E : Type 0) : Type 0 where
@@ -64,18 +66,18 @@ pub record GuaranteedOf {S E : Type 0} (M : Model S) (ev : Events S E) (h : Hist
   -- the debt and what unit 0 took back are what starts and grants brought in
   pub accounted : (M.shows b).debt + tally_all ev h.taken f es ≡ grant * (tally_all ev h.starts f es + tally_all ev h.grants f es)
   -- finished is said exactly when every unit is idle and every slot empty
-  pub finished : (M.told b ≡ Finished) ↔ Complete (M.shows b)
+  pub finished : (M.told b ≡ Ok Finished) ↔ Complete (M.shows b)
   -- with no unit active and no work under way, drains are bounded and never stuck
   pub drains_end : QuietSheet (M.shows b) → DrainsEnd M b
 
 -- ---- over boards: for every accepted opening and every list of events
 unfoldable pub GuaranteeOf : {E : Type 0} → Events Board E → History Board E → Type 0
-GuaranteeOf {E} ev h = (m d : ℕ) (ps : List ℕ) (es : List E) → (opening m d ps).answer ≡ 0 → GuaranteedOf boards ev h (opening m d ps).board es (after_all ev (opening m d ps).board es)
+GuaranteeOf {E} ev h = (m d : ℕ) (ps : List ℕ) (es : List E) → number_of (opening m d ps).answer ≡ 0 → GuaranteedOf boards ev h (opening m d ps).board es (after_all ev (opening m d ps).board es)
 
 -- the guarantee as a call carries it to its caller: of every accepted opening and list qs that led to b, where es then led to c
 abbrev pub CarriesOf : {E : Type 0} → Events Board E → History Board E → Board → List E → Board → Type 0
 CarriesOf {E} ev h b es c =
-    (m d : ℕ) (ps : List ℕ) (qs : List E) → (opening m d ps).answer ≡ 0 → b ≡ after_all ev (opening m d ps).board qs
+    (m d : ℕ) (ps : List ℕ) (qs : List E) → number_of (opening m d ps).answer ≡ 0 → b ≡ after_all ev (opening m d ps).board qs
     → GuaranteedOf boards ev h (opening m d ps).board (qs ++ es) c
 
 -- ---- over steps, beginnings and visits: the guarantee
@@ -97,14 +99,14 @@ Carries b es c = CarriesOf events event_history b es c
 -- on a finished board that a list left, every step but a start or a move is refused
 unfoldable pub FinishedRefuses : Type 0
 FinishedRefuses =
-    (m d : ℕ) (ps : List ℕ) (es : List Event) (r : StepRecord) → (opening m d ps).answer ≡ 0
-    → verdict (after_all events (opening m d ps).board es) ≡ Finished → undrained_count (view (after_all events (opening m d ps).board es)) r ≡ 0
-    → (step (after_all events (opening m d ps).board es) r).answer ≡ 0 → ⊥
+    (m d : ℕ) (ps : List ℕ) (es : List Event) (r : StepRecord) → number_of (opening m d ps).answer ≡ 0
+    → verdict (after_all events (opening m d ps).board es) ≡ Ok Finished → undrained_count (view (after_all events (opening m d ps).board es)) r ≡ 0
+    → number_of (step (after_all events (opening m d ps).board es) r).answer ≡ 0 → ⊥
 
 -- on a finished board that a list left, unit 0 took back all that starts and grants brought in
 unfoldable pub FinishedAllBack : Type 0
 FinishedAllBack =
-    (m d : ℕ) (ps : List ℕ) (es : List Event) → (opening m d ps).answer ≡ 0 → verdict (after_all events (opening m d ps).board es) ≡ Finished
+    (m d : ℕ) (ps : List ℕ) (es : List Event) → number_of (opening m d ps).answer ≡ 0 → verdict (after_all events (opening m d ps).board es) ≡ Ok Finished
     → tally_all events event_history.taken (opening m d ps).board es
     ≡ grant * (tally_all events event_history.starts (opening m d ps).board es + tally_all events event_history.grants (opening m d ps).board es)
 
@@ -115,7 +117,7 @@ under_parent b u p = board_of (changed (view b) (set b.parents u p) b.units b.sl
 
 -- an accepted move changes nothing else: returns under way go where they were sent, and the debt stays
 unfoldable pub MovesChangeParent : Type 0
-MovesChangeParent = (b : Board) (r : StepRecord) → action_of r.kind ≡ Move → (step b r).answer ≡ 0 → (step b r).board ≡ under_parent b r.unit r.other
+MovesChangeParent = (b : Board) (r : StepRecord) → action_of r.kind ≡ Move → number_of (step b r).answer ≡ 0 → (step b r).board ≡ under_parent b r.unit r.other
 
 -- a move leaves what is told of a board, so a finished one finished
 unfoldable pub MovesKeepVerdict : Type 0
@@ -128,7 +130,7 @@ pub record MovesNowhere (b : Board) (r : StepRecord) : Type 0 where
 
 -- no other accepted step leaves the board as it was, and that one does
 unfoldable pub AcceptedChanges : Type 0
-AcceptedChanges = (b : Board) (r : StepRecord) → (step b r).answer ≡ 0 → ((step b r).board ≡ b) ↔ MovesNowhere b r
+AcceptedChanges = (b : Board) (r : StepRecord) → number_of (step b r).answer ≡ 0 → ((step b r).board ≡ b) ↔ MovesNowhere b r
 
 -- a waiting unit counts at least 1 less than the bound has for it, a return to a unit that is not among the deepest at least d + 2 less: so
 -- many steps fewer has each drain, and with either on the board none attains the bound

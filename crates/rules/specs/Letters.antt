@@ -1,6 +1,7 @@
 -- The letters of each step, in the order of its bracket and of its script line; and what follows from them: where they must lie, which
 -- of a record's fields are read, and which places a step may change.
 use Rattle.std.specs.Prelude.{Bool, true, false, cond, List, [], ◌∷◌, ◌++◌, ℕ, suc, get_or}
+use Rattle.refusals.specs.declared.Refusal.TheVariants.{NoSuchUnit, NoSuchSlot, ParentNotLower}
 use Rattle.rules.specs.Facts.{Check, check, below}
 use Rattle.rules.specs.Actions.{action_of, is_action}
 use Rattle.rules.specs.Records.{Action, Unknown, Start, Send, RequestStep, Deliver, Rest, Tick, Release, Move, StepRecord}
@@ -68,9 +69,9 @@ with_field r slot_field x = record { kind = r.kind; unit = r.unit; other = r.oth
 
 -- ---- the head of a bracket: 13 unit not below n, 14 slot not below M, 47 u is 0 or p not lower than u (M-108): nothing is lower than 0
 abbrev pub place_check : ℕ → ℕ → ℕ → ℕ → Limit → List Check
-place_check n m u i units_in_use = check (below i n) 13 ∷ []
-place_check n m u i slots_in_use = check (below i m) 14 ∷ []
-place_check n m u i own_unit = check (below i u) 47 ∷ []
+place_check n m u i units_in_use = check (below i n) NoSuchUnit ∷ []
+place_check n m u i slots_in_use = check (below i m) NoSuchSlot ∷ []
+place_check n m u i own_unit = check (below i u) ParentNotLower ∷ []
 
 abbrev pub checks_of : ℕ → ℕ → StepRecord → List Letter → List Check
 checks_of n m r [] = []

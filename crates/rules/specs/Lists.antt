@@ -1,7 +1,7 @@
 -- Lists on a board: of steps, and of events, which are steps, beginnings and visits (M-105).
 use Rattle.std.specs.Prelude.{Bool, List, [], ◌∷◌, ℕ}
 use Rattle.rules.specs.Events.{Events, after_all, all_answers, accepts}
-use Rattle.rules.specs.Rounds.{finding_number}
+use Rattle.refusals.specs.Numbers.{number_of}
 use Rattle.rules.specs.Sheets.Sheet.{Sheet}
 use Rattle.rules.specs.Boards.{view}
 use Rattle.rules.specs.Steps.{step}
@@ -10,7 +10,7 @@ use Rattle.rules.specs.Records.{Board, StepRecord}
 
 -- steps: each gets the board that the step before it returned; after a refusal that is the same board
 abbrev pub steps : Events Board StepRecord
-steps = record { next = λ b r. (step b r).board; answer = λ b r. (step b r).answer }
+steps = record { next = λ b r. (step b r).board; answer = λ b r. number_of (step b r).answer }
 
 abbrev pub after : Board → List StepRecord → Board
 after b rs = after_all steps b rs
@@ -33,9 +33,9 @@ next_by b begins = (begin b).board
 next_by b (visits u) = (visit b u).board
 
 abbrev pub answer_by : Board → Event → ℕ
-answer_by b (takes r) = (step b r).answer
-answer_by b begins = (begin b).answer
-answer_by b (visits u) = finding_number (visit b u).finding
+answer_by b (takes r) = number_of (step b r).answer
+answer_by b begins = number_of (begin b).answer
+answer_by b (visits u) = number_of (visit b u).finding
 
 abbrev pub events : Events Board Event
 events = record { next = next_by; answer = answer_by }

@@ -1,5 +1,5 @@
 -- What is claimed of the longest drain (M-109), of every sound board with no unit active and no work under way.
-use Rattle.std.specs.Prelude.{◌≡◌, List, ℕ, ◌≤◌, ◌<◌, length}
+use Rattle.std.specs.Prelude.{◌≡◌, List, ℕ, ◌≤◌, ◌<◌, length, Ok}
 use Rattle.rules.specs.Sheets.Sheet.{slot_at}
 use Rattle.rules.specs.Sheets.Longest.{longest_length, longest_list}
 use Rattle.rules.specs.Boards.{view}
@@ -14,7 +14,7 @@ pub record LongestDrain (b : Board) (rs : List StepRecord) : Type 0 where
   pub is_drain : Drain b rs
   pub exact : length rs ≡ longest_length (view b)
   pub longest : (qs : List StepRecord) → Drain b qs → length qs ≤ length rs
-  pub finishes : verdict (after b rs) ≡ Finished
+  pub finishes : verdict (after b rs) ≡ Ok Finished
   -- M-108's bound is no less
   pub bounded : length rs ≤ drain_bound b
 

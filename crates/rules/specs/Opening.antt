@@ -1,5 +1,7 @@
 -- Opening a board from M, d and the parents of units 1 on.
-use Rattle.std.specs.Prelude.{List, [], ◌∷◌, ◌++◌, Bool, ℕ, suc, ◌-◌, length, replicate}
+use Rattle.std.specs.Prelude.{List, [], ◌∷◌, ◌++◌, Bool, ℕ, suc, ◌-◌, length, replicate, Ok, Err}
+use Rattle.refusals.specs.declared.Refusal.{Refusal}
+use Rattle.refusals.specs.declared.Refusal.TheVariants.{BoardSize, ParentOrder}
 use Rattle.rules.specs.Facts.{Check, check, at_most, below, holds, each, judge}
 use Rattle.rules.specs.Records.{blank_unit, blank_slot, Board, Outcome}
 use Rattle.rules.specs.Rounds.{no_round}
@@ -11,11 +13,11 @@ lower_parents ps = each (λ i p. below p (suc i) ∷ []) ps
 -- 11 more than 63 parents, M outside 1 to 256, or d over 255; 12 a parent not below its unit
 abbrev pub opening_checks : ℕ → ℕ → List ℕ → List Check
 opening_checks m d ps =
-    check (at_most (length ps) 63) 11
-    ∷ check (at_most 1 m) 11
-    ∷ check (at_most m 256) 11
-    ∷ check (at_most d 255) 11
-    ∷ check (holds (lower_parents ps)) 12
+    check (at_most (length ps) 63) BoardSize
+    ∷ check (at_most 1 m) BoardSize
+    ∷ check (at_most m 256) BoardSize
+    ∷ check (at_most d 255) BoardSize
+    ∷ check (holds (lower_parents ps)) ParentOrder
     ∷ []
 
 -- a board of these sizes and parents with debt 0, "all idle and empty"; counts 0 and no round (M-105)
@@ -41,8 +43,8 @@ fresh m d ps = idle_board (suc (length ps)) m d (0 ∷ ps ++ replicate (63 - len
 unfoldable pub blank_board : Board
 blank_board = idle_board 0 0 0 (replicate 64 0)
 
-abbrev pub refused_by : ℕ → Outcome
-refused_by k = record { answer = k; board = blank_board }
+abbrev pub refused_by : Refusal → Outcome
+refused_by k = record { answer = Err k; board = blank_board }
 
 unfoldable pub opening : ℕ → ℕ → List ℕ → Outcome
-opening m d ps = judge refused_by (opening_checks m d ps) (record { answer = 0; board = fresh m d ps })
+opening m d ps = judge refused_by (opening_checks m d ps) (record { answer = Ok tt; board = fresh m d ps })

@@ -1,5 +1,6 @@
 -- Two steps in either order (M-107), and the lists that come of such exchanges.
 use Rattle.std.specs.Prelude.{◌≡◌, true, List, [], ◌∷◌, ◌++◌}
+use Rattle.refusals.specs.Numbers.{number_of}
 use Rattle.rules.specs.Events.{Events, after_all, all_answers}
 use Rattle.rules.specs.Sheets.Touching.{the_unit, touched, apart}
 use Rattle.rules.specs.Actions.{action_of}
@@ -10,7 +11,7 @@ use Rattle.rules.specs.Records.{Move, Board, StepRecord}
 
 -- accepted, and the debt is as it was. (That b is sound need not be asked: a step on another board is refused.)
 pub record DebtKept (b : Board) (r : StepRecord) : Type 0 where
-  pub accepted : (step b r).answer ≡ 0
+  pub accepted : number_of (step b r).answer ≡ 0
   pub debt : (step b r).board.debt ≡ b.debt
 
 -- independent: what q and r touch on b has nothing in common, and neither q on b nor then r on the board that q leaves is refused or changes the debt

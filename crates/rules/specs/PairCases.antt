@@ -1,5 +1,6 @@
 -- Worked pairs of steps (M-107): independent ones, and for each premise a pair that shows what it is for.
 use Rattle.std.specs.Prelude.{◌≡◌, true, false, List, [], ◌∷◌, ℕ}
+use Rattle.refusals.specs.Numbers.{number_of}
 use Rattle.rules.specs.Actions.{action_of}
 use Rattle.rules.specs.Letters.{letters}
 use Rattle.rules.specs.Sheets.Touching.{Spot, the_unit, the_slot, spots_of, touched, among, apart}
@@ -46,7 +47,7 @@ ShownBy b q r (owes ks) =
 
 abbrev pub AllShown : List Pair → Type 0
 AllShown [] = Unit {0}
-AllShown (p ∷ ps) = ((pair_opened p).answer ≡ 0) × ShownBy (after (pair_opened p).board p.before) p.one p.two p.shows × AllShown ps
+AllShown (p ∷ ps) = (number_of (pair_opened p).answer ≡ 0) × ShownBy (after (pair_opened p).board p.before) p.one p.two p.shows × AllShown ps
 
 -- four units, unit 3 under unit 1: units 0, 1 and 2 are active, unit 3 waits, and work for unit 1 is in slot 0
 abbrev pub on_four : StepRecord → StepRecord → Shows → Pair

@@ -8,7 +8,7 @@ pub use Rattle.rules.specs.declared.Kind.TheVariants.{Empty, Work, Return, Reque
 pub use Rattle.rules.specs.declared.UnitRecord.{UnitRecord}
 pub use Rattle.rules.specs.declared.Slot.{Slot}
 pub use Rattle.rules.specs.declared.Round.{Round}
-pub use Rattle.rules.specs.declared.Round.TheVariants.{None, One, Two}
+pub use Rattle.rules.specs.declared.Round.TheVariants.{One, Two}
 pub use Rattle.rules.specs.declared.Rounds.{Rounds}
 pub use Rattle.rules.specs.declared.Board.{Board}
 pub use Rattle.rules.specs.declared.StepRecord.{StepRecord}
@@ -19,13 +19,11 @@ pub use Rattle.rules.specs.declared.Effect.TheVariants.{OnUnit, OnSlot, OnBoth, 
 pub use Rattle.rules.specs.declared.Counts.{Counts}
 pub use Rattle.rules.specs.declared.Change.{Change}
 pub use Rattle.rules.specs.declared.Outcome.{Outcome}
-pub use Rattle.rules.specs.declared.Depth.{Depth}
 pub use Rattle.rules.specs.declared.Verdict.{Verdict}
 pub use Rattle.rules.specs.declared.Verdict.TheVariants.{Finished, Working}
 pub use Rattle.rules.specs.declared.Finding.{Finding}
 pub use Rattle.rules.specs.declared.Finding.TheVariants.{NoVerdict, AllQuiet, Unsettled}
 pub use Rattle.rules.specs.declared.Visited.{Visited}
-pub use Rattle.rules.specs.declared.Ran.{Ran}
 pub use Rattle.rules.specs.declared.Batch.{Batch}
 pub use Rattle.rules.specs.declared.Shared.{Shared}
 

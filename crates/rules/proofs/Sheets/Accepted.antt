@@ -3,6 +3,11 @@ use mathlib.Core.Path.{◌≡◌, sym, ap, subst, ◌∙◌}
 use mathlib.Core.List.{List, [], ◌∷◌, ◌++◌}
 use Prim.Native.Nat.{ℕ, ◌+◌, ◌≤◌}
 use native.Mathlib.Omega.{arith}
+use Rattle.refusals.proofs.NumberLaws.{refused_above_zero}
+use Rattle.refusals.specs.declared.Refusal.{Refusal}
+use Rattle.std.specs.Prelude.{Result, Ok, Err}
+use Rattle.refusals.specs.Numbers.{number_of}
+use Rattle.refusals.specs.declared.Refusal.TheVariants.{NotSound, SlotEmpty}
 use Rattle.rules.specs.Facts.{Claim, Claims, Check, check, fails}
 use Rattle.rules.specs.Records.{is_empty, grant, ceiling, Kind, Empty, Work, Return, Request, Supply, Action, Unknown, Start, Send, RequestStep, Deliver, Rest, Tick, Release, Move, Effect, UnitRecord, Slot, StepRecord}
 use Rattle.rules.specs.Sheets.Sheet.{parent_at, unit_at, slot_at, Sheet, Outcome}
@@ -11,35 +16,9 @@ use Rattle.rules.specs.Actions.{action_of}
 use Rattle.rules.specs.Letters.{Limit, units_in_use, slots_in_use, own_unit, Letter, letters, read, place_check, checks_of, place_checks, slot_of}
 use Rattle.rules.specs.Sheets.Steps.{unit_of, made_at, places_on, checks_on, done_on, effect_by, effect, applied, sound_step, step}
 use Rattle.rules.specs.Effects.{grant_fits, record_checks, record_rule}
-use Rattle.rules.proofs.JudgeLaws.{Numbered, Judged, passed, failed, judged, first_passed}
+use Rattle.rules.proofs.JudgeLaws.{Judged, passed, failed, judged, first_passed}
 use Rattle.rules.proofs.FactLaws.{asked, judge_passed, claims_append, fact_by, fact_shown}
 use Rattle.rules.proofs.Sheets.SoundLaws.{sound_claims, sound_tested}
-use Rattle.rules.specs.declared.Effect.TheVariants.{Refused}
-
--- ---- every check of a step has a number
-pub place_numbered : (n m : ℕ) (r : StepRecord) (a : Action) → Numbered (place_checks n m r a)
-place_numbered n m r a = of_letters (letters a)
-  where
-    of_limit : (i : ℕ) (cs : List Check) → Numbered cs → (x : Limit) → Numbered (place_check n m r.unit i x ++ cs)
-    of_limit i cs h = elim [ units_in_use ↦ (omega arith, h) | slots_in_use ↦ (omega arith, h) | own_unit ↦ (omega arith, h) ]
-
-    of_letters : (ls : List Letter) → Numbered (checks_of n m r ls)
-    of_letters [] = tt
-    of_letters (l ∷ ls) = of_limit (read r l.field) (checks_of n m r ls) (of_letters ls) l.limit
-
-grant_numbered : (debt : ℕ) (k : Kind) → Numbered (grant_fits debt k)
-grant_numbered debt = elim [ Empty ↦ tt | Work ↦ tt | Return ↦ tt | Request ↦ omega arith | Supply ↦ tt ]
-
-pub record_numbered : (debt : ℕ) (x : UnitRecord) (y : Slot) (made : ℕ) (a : Action) → Numbered (record_checks debt x y made a)
-record_numbered debt x y made Unknown = omega arith
-record_numbered debt x y made Start = omega arith
-record_numbered debt x y made Send = omega arith
-record_numbered debt x y made RequestStep = omega arith
-record_numbered debt x y made Deliver = (omega arith, grant_numbered debt y.kind)
-record_numbered debt x y made Rest = omega arith
-record_numbered debt x y made Tick = omega arith
-record_numbered debt x y made Release = omega arith
-record_numbered debt x y made Move = tt
 
 -- ---- what an accepted step tells, by its action
 pub record AcceptedAs (b : Sheet) (r : StepRecord) (a : Action) : Type 0 where
@@ -54,16 +33,16 @@ shown {b} {r} {a} k c = fact_shown k (places_on b r a ++ checks_on b r a) (claim
 
 -- a request that was delivered left the debt within its most
 pub shown_grant : {b : Sheet} {r : StepRecord} → AcceptedAs b r Deliver → (slot_at b r.slot).kind ≡ Request → b.debt + grant ≤ ceiling
-shown_grant {b} {r} c e = subst (λ (k : Kind). Claim (fact_by 36 (check (fails (is_empty k)) 35 ∷ grant_fits b.debt k))) e (shown 36 c)
+shown_grant {b} {r} c e = subst (λ (k : Kind). Claim (fact_by 36 (check (fails (is_empty k)) SlotEmpty ∷ grant_fits b.debt k))) e (shown 36 c)
 
 -- a step on a sound sheet is the step without the test; on another sheet it is 30
 pub step_sound : (b : Sheet) (r : StepRecord) → Sound b → step b r ≡ sound_step b r
 unfolding step
 step_sound b r h = rw (sound_tested b h)
 
-pub accepted_sound : (b : Sheet) (r : StepRecord) → (step b r).answer ≡ 0 → Sound b
+pub accepted_sound : (b : Sheet) (r : StepRecord) → number_of (step b r).answer ≡ 0 → Sound b
 unfolding step
-accepted_sound b r e = sound_claims b (first_passed (λ (o : Outcome). o.answer) (λ k. record { answer = k; sheet = b }) (sound b) 30 (sound_step b r) (λ z. omega (arith, z)) e)
+accepted_sound b r e = sound_claims b (first_passed (λ (o : Outcome). number_of o.answer) (λ k. record { answer = Err k; sheet = b }) (sound b) NotSound (sound_step b r) (λ z. omega (arith, z)) e)
 
 module _ (b : Sheet) (r : StepRecord) (h : Sound b) (a : Action) (named : action_of r.kind ≡ a) where
   abbrev u : ℕ
@@ -72,12 +51,12 @@ module _ (b : Sheet) (r : StepRecord) (h : Sound b) (a : Action) (named : action
   abbrev s : ℕ
   s = slot_of r a
 
-  abbrev rule : Effect
+  abbrev rule : Result Effect Refusal
   rule = record_rule b.debt b.delay r (unit_at b u) (parent_at b u) (slot_at b s) (made_at b u) a
 
-  refused_answer : (e : Effect) (k : ℕ) → 1 ≤ k → e ≡ Refused k → (applied b a u s e).answer ≡ 0 → ⊥
+  refused_answer : (e : Result Effect Refusal) (k : Refusal) → e ≡ Err k → number_of (applied b a u s e).answer ≡ 0 → ⊥
   unfolding applied
-  refused_answer e k p q z = omega (arith, rw q at z)
+  refused_answer e k q z = refused_above_zero k (rw q at z)
 
   by_action : step b r ≡ applied b a u s (effect_by b r a)
   unfolding sound_step effect
@@ -86,19 +65,19 @@ module _ (b : Sheet) (r : StepRecord) (h : Sound b) (a : Action) (named : action
   -- where the whole bracket holds, the step does what its effect says
   pub step_does : Claims (asked (places_on b r a)) → Claims (asked (checks_on b r a)) → step b r ≡ applied b a u s (done_on b r a)
   unfolding record_rule
-  step_does p q = by_action ∙ ap (λ (x : Effect). applied b a u s x) (judge_passed Refused (places_on b r a) rule p ∙ judge_passed Refused (checks_on b r a) (done_on b r a) q)
+  step_does p q = by_action ∙ ap (λ (x : Result Effect Refusal). applied b a u s x) (judge_passed Err (places_on b r a) rule p ∙ judge_passed Err (checks_on b r a) (done_on b r a) q)
 
-  pub accepted_as : (step b r).answer ≡ 0 → AcceptedAs b r a
+  pub accepted_as : number_of (step b r).answer ≡ 0 → AcceptedAs b r a
   unfolding record_rule
-  accepted_as e = by_places (judged Refused (places_on b r a) rule (place_numbered b.n b.m r a))
+  accepted_as e = by_places (judged Err (places_on b r a) rule)
     where
-      zero_answer : (applied b a u s (effect_by b r a)).answer ≡ 0
-      zero_answer = sym (ap (λ (o : Outcome). o.answer) by_action) ∙ e
+      zero_answer : number_of (applied b a u s (effect_by b r a)).answer ≡ 0
+      zero_answer = sym (ap (λ (o : Outcome). number_of o.answer) by_action) ∙ e
 
-      by_records : Claims (asked (places_on b r a)) → Judged Refused (checks_on b r a) (done_on b r a) → AcceptedAs b r a
+      by_records : Claims (asked (places_on b r a)) → Judged Err (checks_on b r a) (done_on b r a) → AcceptedAs b r a
       by_records p (passed q) = record { named = named; places = p; records = q; gives = step_does p q }
-      by_records p (failed k l q) = absurd (refused_answer (effect_by b r a) k l.0 (judge_passed Refused (places_on b r a) rule p ∙ q) zero_answer)
+      by_records p (failed k q) = absurd (refused_answer (effect_by b r a) k (judge_passed Err (places_on b r a) rule p ∙ q) zero_answer)
 
-      by_places : Judged Refused (places_on b r a) rule → AcceptedAs b r a
-      by_places (passed p) = by_records p (judged Refused (checks_on b r a) (done_on b r a) (record_numbered b.debt (unit_at b u) (slot_at b s) (made_at b u) a))
-      by_places (failed k l q) = absurd (refused_answer (effect_by b r a) k l.0 q zero_answer)
+      by_places : Judged Err (places_on b r a) rule → AcceptedAs b r a
+      by_places (passed p) = by_records p (judged Err (checks_on b r a) (done_on b r a))
+      by_places (failed k q) = absurd (refused_answer (effect_by b r a) k q zero_answer)

@@ -7,6 +7,9 @@ use Prim.Native.Nat.{ℕ, ◌+◌, ◌<◌}
 use native.Mathlib.Omega.{arith}
 use lib.ListN.{length, get_or, set}
 use lib.Seq.{get_or-set_same, set-get_or}
+use Rattle.refusals.specs.declared.Refusal.{Refusal}
+use Rattle.std.specs.Prelude.{Result, Ok}
+use Rattle.refusals.specs.Numbers.{number_of}
 use Rattle.rules.specs.Records.{is_active, is_empty, is_request, blank_unit, blank_slot, Kind, Empty, Work, Return, Request, Supply, Action, Unknown, Start, Send, RequestStep, Deliver, Rest, Tick, Release, Move, Effect, UnitRecord, Slot, StepRecord}
 use Rattle.rules.specs.Sheets.Sheet.{parent_at, unit_at, slot_at, Sheet, Outcome}
 use Rattle.rules.specs.Sheets.Sound.{Sound}
@@ -43,7 +46,7 @@ module _ (b : Sheet) (r : StepRecord) (h : Sound b) where
 
   -- ---- each action
   -- the effect at these places leaves the board as it was
-  abbrev Stays : Action → ℕ → ℕ → Effect → Type 0
+  abbrev Stays : Action → ℕ → ℕ → Result Effect Refusal → Type 0
   Stays a u s e = (applied b a u s e).sheet ≡ b
 
   deliver_changes : AcceptedAs b r Deliver → (k : Kind) → (slot_at b r.slot).kind ≡ k
@@ -52,7 +55,7 @@ module _ (b : Sheet) (r : StepRecord) (h : Sound b) where
   deliver_changes c Empty q e = true_not_false (sym (ap is_empty q) ∙ shown 35 c)
   deliver_changes c Work q e = empties r.slot (shown 14 c) (shown 35 c) (ap (λ (d : Sheet). d.slots) e)
   deliver_changes c Return q e =
-      root_or_other (λ z w. Stays Deliver (slot_at b r.slot).to r.slot z → ⊥) (slot_at b r.slot).to 0 _ _ (λ u p. empties r.slot (shown 14 c) (shown 35 c) (ap (λ (d : Sheet). d.slots) p))
+      root_or_other (λ z w. Stays Deliver (slot_at b r.slot).to r.slot (Ok z) → ⊥) (slot_at b r.slot).to 0 _ _ (λ u p. empties r.slot (shown 14 c) (shown 35 c) (ap (λ (d : Sheet). d.slots) p))
       (λ l p. empties r.slot (shown 14 c) (shown 35 c) (ap (λ (d : Sheet). d.slots) p)) e
   deliver_changes c Request q e = true_not_false (sym (ap is_request q) ∙ sym (ap (λ (z : Slot). is_request z.kind) (slot_stays r.slot _ (shown 14 c) (ap (λ (d : Sheet). d.slots) e))))
   deliver_changes c Supply q e = empties r.slot (shown 14 c) (shown 35 c) (ap (λ (d : Sheet). d.slots) e)
@@ -60,7 +63,7 @@ module _ (b : Sheet) (r : StepRecord) (h : Sound b) where
   rest_changes : AcceptedAs b r Rest → Stays Rest r.unit 0 (done_on b r Rest) → ⊥
   unfolding applied
   rest_changes c =
-      root_or_other (λ z w. Stays Rest r.unit 0 z → ⊥) r.unit 0 _ _ (λ u e. quiets r.unit _ (shown 13 c) (shown 31 c) refl (ap (λ (d : Sheet). d.units) e))
+      root_or_other (λ z w. Stays Rest r.unit 0 (Ok z) → ⊥) r.unit 0 _ _ (λ u e. quiets r.unit _ (shown 13 c) (shown 31 c) refl (ap (λ (d : Sheet). d.units) e))
       (λ l e. quiets r.unit _ (shown 13 c) (shown 31 c) refl (ap (λ (d : Sheet). d.units) e))
 
   -- only a move under the parent that the unit has
@@ -76,7 +79,7 @@ module _ (b : Sheet) (r : StepRecord) (h : Sound b) where
   changes Release c e = absurd (fills r.slot _ (shown 14 c) (shown 34 c) refl (ap (λ (d : Sheet). d.slots) e))
   changes Move c e = (refl, entry_stays b.parents r.unit r.other 0 (omega (arith, h.s1_sizes, shown 13 c)) (ap (λ (d : Sheet). d.parents) e))
 
-pub accepted_changes : (b : Sheet) (r : StepRecord) → (step b r).answer ≡ 0 → (step b r).sheet ≡ b → (action_of r.kind ≡ Move) × (r.other ≡ parent_at b r.unit)
+pub accepted_changes : (b : Sheet) (r : StepRecord) → number_of (step b r).answer ≡ 0 → (step b r).sheet ≡ b → (action_of r.kind ≡ Move) × (r.other ≡ parent_at b r.unit)
 accepted_changes b r z e =
     let h : Sound b = accepted_sound b r z in
     let c = accepted_as b r h (action_of r.kind) refl z in

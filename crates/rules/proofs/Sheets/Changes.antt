@@ -6,6 +6,8 @@ use native.Mathlib.Omega.{arith}
 use native.Mathlib.Decide.{ℕ_discrete}
 use lib.ListN.{length, get_or, set, length-set}
 use lib.Seq.{get_or-set_same, get_or-set_other, set-get_or}
+use Rattle.refusals.specs.declared.Refusal.{Refusal}
+use Rattle.std.specs.Prelude.{Result, Ok, Err}
 use Rattle.rules.specs.Facts.{Claims, one_if, Check, judge}
 use Rattle.rules.specs.Records.{is_work, blank_unit, blank_slot, ceiling, full, Action, Effect, OnUnit, OnSlot, OnBoth, OnParent, UnitRecord, Slot, Counts}
 use Rattle.rules.specs.Sheets.Sheet.{Sheet, parent_at, unit_at, slot_at, counts_at, Outcome}
@@ -16,7 +18,6 @@ use Rattle.rules.proofs.FactLaws.{each_of, each_set}
 use Rattle.rules.proofs.JudgeLaws.{judge_map}
 use Rattle.rules.proofs.SumLaws.{sum_set}
 use Rattle.rules.proofs.Sheets.SoundLaws.{row_of, parent_row_lem, unit_row_lem, slot_row_lem, pending_row_lem}
-use Rattle.rules.specs.declared.Effect.TheVariants.{Refused}
 
 -- what a change must meet: unit u becomes x, slot s becomes y, and the debt as given
 pub record Fits (b : Sheet) (u s : ℕ) (x : UnitRecord) (y : Slot) (debt : ℕ) : Type 0 where
@@ -103,35 +104,35 @@ slot_change b h u s y debt k l c e w q = record {
 }
 
 -- ---- an effect: a refused one leaves the board as it was; one that fits keeps it sound
-pub refused_applied : (b : Sheet) (a : Action) (u s k : ℕ) → applied b a u s (Refused k) ≡ record { answer = k; sheet = b }
+pub refused_applied : (b : Sheet) (a : Action) (u s : ℕ) (k : Refusal) → applied b a u s (Err k) ≡ record { answer = Err k; sheet = b }
 unfolding applied
 refused_applied b a u s k = rw (set-get_or b.parents u 0, set-get_or b.units u blank_unit, set-get_or b.slots s blank_slot, set-get_or b.created u 0, set-get_or b.processed u 0)
 
 -- so a judged effect, applied anywhere, is the applied effect judged: its refusals leave the board
-pub judged_applied : (b : Sheet) (a : Action) (u s : ℕ) (cs : List Check) (e : Effect) → applied b a u s (judge Refused cs e) ≡ judge (λ k. record { answer = k; sheet = b }) cs (applied b a u s e)
-judged_applied b a u s cs e = judge_map (applied b a u s) Refused cs e ∙ (λ i. judge (λ k. refused_applied b a u s k i) cs (applied b a u s e))
+pub judged_applied : (b : Sheet) (a : Action) (u s : ℕ) (cs : List Check) (e : Result Effect Refusal) → applied b a u s (judge Err cs e) ≡ judge (λ k. record { answer = Err k; sheet = b }) cs (applied b a u s e)
+judged_applied b a u s cs e = judge_map (applied b a u s) Err cs e ∙ (λ i. judge (λ k. refused_applied b a u s k i) cs (applied b a u s e))
 
-abbrev pub FitsEffect : Sheet → ℕ → ℕ → Effect → Type 0
-FitsEffect b u s (Refused k) = Unit {0}
-FitsEffect b u s (OnUnit x debt) = Fits b u s x (slot_at b s) debt
-FitsEffect b u s (OnSlot y debt) = Fits b u s (unit_at b u) y debt
-FitsEffect b u s (OnBoth x y debt) = Fits b u s x y debt
-FitsEffect b u s (OnParent p) = (u < b.n) × (s < b.m) × Claims (lower_parent u p)
+abbrev pub FitsEffect : Sheet → ℕ → ℕ → Result Effect Refusal → Type 0
+FitsEffect b u s (Err k) = Unit {0}
+FitsEffect b u s (Ok (OnUnit x debt)) = Fits b u s x (slot_at b s) debt
+FitsEffect b u s (Ok (OnSlot y debt)) = Fits b u s (unit_at b u) y debt
+FitsEffect b u s (Ok (OnBoth x y debt)) = Fits b u s x y debt
+FitsEffect b u s (Ok (OnParent p)) = (u < b.n) × (s < b.m) × Claims (lower_parent u p)
 
 -- the counts that an accepted step of the action leaves
-abbrev pub CountsFitEffect : Sheet → Action → ℕ → ℕ → Effect → Type 0
-CountsFitEffect b a u s (Refused k) = Unit {0}
-CountsFitEffect b a u s (OnUnit x debt) = CountsFit b u s (slot_at b s) (counted (counts_at b u) (slot_at b s) a)
-CountsFitEffect b a u s (OnSlot y debt) = CountsFit b u s y (counted (counts_at b u) (slot_at b s) a)
-CountsFitEffect b a u s (OnBoth x y debt) = CountsFit b u s y (counted (counts_at b u) (slot_at b s) a)
-CountsFitEffect b a u s (OnParent p) = CountsFit b u s (slot_at b s) (counted (counts_at b u) (slot_at b s) a)
+abbrev pub CountsFitEffect : Sheet → Action → ℕ → ℕ → Result Effect Refusal → Type 0
+CountsFitEffect b a u s (Err k) = Unit {0}
+CountsFitEffect b a u s (Ok (OnUnit x debt)) = CountsFit b u s (slot_at b s) (counted (counts_at b u) (slot_at b s) a)
+CountsFitEffect b a u s (Ok (OnSlot y debt)) = CountsFit b u s y (counted (counts_at b u) (slot_at b s) a)
+CountsFitEffect b a u s (Ok (OnBoth x y debt)) = CountsFit b u s y (counted (counts_at b u) (slot_at b s) a)
+CountsFitEffect b a u s (Ok (OnParent p)) = CountsFit b u s (slot_at b s) (counted (counts_at b u) (slot_at b s) a)
 
-pub effect_sound : (b : Sheet) → Sound b → (a : Action) (u s : ℕ) (e : Effect) → FitsEffect b u s e → CountsFitEffect b a u s e → Sound (applied b a u s e).sheet
+pub effect_sound : (b : Sheet) → Sound b → (a : Action) (u s : ℕ) (e : Result Effect Refusal) → FitsEffect b u s e → CountsFitEffect b a u s e → Sound (applied b a u s e).sheet
 unfolding applied
-effect_sound b h a u s (Refused k) f g = subst (λ (o : Outcome). Sound o.sheet) (sym (refused_applied b a u s k)) h
-effect_sound b h a u s (OnUnit x debt) f g = change_sound b h u s x (parent_at b u) (slot_at b s) debt _ f (parent_row_lem b h u f.unit_used) g
-effect_sound b h a u s (OnSlot y debt) f g = change_sound b h u s (unit_at b u) (parent_at b u) y debt _ f (parent_row_lem b h u f.unit_used) g
-effect_sound b h a u s (OnBoth x y debt) f g = change_sound b h u s x (parent_at b u) y debt _ f (parent_row_lem b h u f.unit_used) g
-effect_sound b h a u s (OnParent p) f g =
+effect_sound b h a u s (Err k) f g = subst (λ (o : Outcome). Sound o.sheet) (sym (refused_applied b a u s k)) h
+effect_sound b h a u s (Ok (OnUnit x debt)) f g = change_sound b h u s x (parent_at b u) (slot_at b s) debt _ f (parent_row_lem b h u f.unit_used) g
+effect_sound b h a u s (Ok (OnSlot y debt)) f g = change_sound b h u s (unit_at b u) (parent_at b u) y debt _ f (parent_row_lem b h u f.unit_used) g
+effect_sound b h a u s (Ok (OnBoth x y debt)) f g = change_sound b h u s x (parent_at b u) y debt _ f (parent_row_lem b h u f.unit_used) g
+effect_sound b h a u s (Ok (OnParent p)) f g =
     change_sound b h u s (unit_at b u) p (slot_at b s) b.debt _
     (unit_change b h u s (unit_at b u) b.debt f.0 f.1 (unit_row_lem b h u f.0) refl refl h.s5_s6_debt.1.0) f.2 g

@@ -9,6 +9,9 @@ use native.Mathlib.Omega.{arith}
 use lib.ListN.{get_or, set}
 use lib.Seq.{get_or-set_same}
 use borrow.Author.Tests.{eq-eqb}
+use Rattle.refusals.specs.declared.Refusal.{Refusal}
+use Rattle.std.specs.Prelude.{Result, Ok, Err}
+use Rattle.refusals.specs.Numbers.{number_of}
 use Rattle.rules.specs.Facts.{one_if}
 use Rattle.rules.specs.Records.{is_active, blank_unit, blank_slot, State, Idle, Active, Waiting, Kind, Empty, Work, Return, Request, Supply, Action, Unknown, Start, Send, RequestStep, Deliver, Rest, Tick, Release, Move, Effect, OnUnit, OnSlot, OnBoth, OnParent, UnitRecord, Slot, Counts, StepRecord}
 use Rattle.rules.specs.Actions.{action_of}
@@ -24,7 +27,6 @@ use Rattle.rules.proofs.Sheets.EntryLaws.{slot_row_as, pending_as, suspended_act
 use Rattle.rules.proofs.Sheets.Changes.{refused_applied, FitsEffect}
 use Rattle.rules.proofs.Sheets.Accepted.{AcceptedAs, shown, accepted_as}
 use Rattle.rules.proofs.Sheets.StepFits.{step_fits}
-use Rattle.rules.specs.declared.Effect.TheVariants.{Refused}
 
 -- ---- the sheet d that an accepted step which is no start left of b
 pub record Advances (b d : Sheet) : Type 0 where
@@ -43,7 +45,7 @@ abbrev Makes : UnitRecord → ℕ → Type 0
 Makes x created = is_active x.state ≡ false → created ≡ 0
 
 -- the unit that an effect leaves in place of x
-abbrev unit_left : Effect → UnitRecord → UnitRecord
+abbrev unit_left : Result Effect Refusal → UnitRecord → UnitRecord
 unit_left e x = let none : Counts = record { created = 0; processed = 0 } in (change_of e x 0 blank_slot 0 none none).unit
 
 module _ (b : Sheet) (h : Sound b) (a : Action) (u s : ℕ) where
@@ -63,15 +65,15 @@ module _ (b : Sheet) (h : Sound b) (a : Action) (u s : ℕ) where
       more = (counts_at b u).processed + processed_by (slot_at b s) a
 
   -- a refusal changes nothing; every other effect replaces the unit's counts
-  effect_advances : (e : Effect) → FitsEffect b u s e → Wakes (unit_at b u) (unit_left e (unit_at b u)) (processed_by (slot_at b s) a) → Makes (unit_at b u) (created_by a) → Advances b (applied b a u s e).sheet
+  effect_advances : (e : Result Effect Refusal) → FitsEffect b u s e → Wakes (unit_at b u) (unit_left e (unit_at b u)) (processed_by (slot_at b s) a) → Makes (unit_at b u) (created_by a) → Advances b (applied b a u s e).sheet
   unfolding applied
-  effect_advances (Refused k) f wakes makes =
+  effect_advances (Err k) f wakes makes =
       subst (λ (o : Outcome). Advances b o.sheet) (sym (refused_applied b a u s k))
       (record { same_units = refl; created_grows = λ i. le_refl _; processed_grows = λ i. le_refl _; woken = λ i p q. absurd (true_not_false (sym q ∙ p)); by_active = λ i p. refl })
-  effect_advances (OnUnit x debt) f wakes makes = change_advances x f.unit_used wakes makes
-  effect_advances (OnSlot y debt) f wakes makes = change_advances (unit_at b u) f.unit_used wakes makes
-  effect_advances (OnBoth x y debt) f wakes makes = change_advances x f.unit_used wakes makes
-  effect_advances (OnParent p) f wakes makes = change_advances (unit_at b u) f.0 wakes makes
+  effect_advances (Ok (OnUnit x debt)) f wakes makes = change_advances x f.unit_used wakes makes
+  effect_advances (Ok (OnSlot y debt)) f wakes makes = change_advances (unit_at b u) f.unit_used wakes makes
+  effect_advances (Ok (OnBoth x y debt)) f wakes makes = change_advances x f.unit_used wakes makes
+  effect_advances (Ok (OnParent p)) f wakes makes = change_advances (unit_at b u) f.0 wakes makes
 
 module _ (b : Sheet) (r : StepRecord) (h : Sound b) where
   returned_sleeps : (d w : ℕ) (x : UnitRecord) (k : State) → x.state ≡ k → is_active (returned d x w k).state ≡ true → is_active x.state ≡ true
@@ -103,7 +105,7 @@ module _ (b : Sheet) (r : StepRecord) (h : Sound b) where
     deliver_wakes Empty e = λ p q. never x q p
     deliver_wakes Work e = λ p q. rw e
     deliver_wakes Return e =
-        root_or_other (λ z w. Wakes x (unit_left z x) (processed_by y Deliver)) y.to 0 _ _ (λ t p q. never x q p) (λ l p q. never x (returned_sleeps b.delay y.weight x x.state refl q) p)
+        root_or_other (λ z w. Wakes x (unit_left (Ok z) x) (processed_by y Deliver)) y.to 0 _ _ (λ t p q. never x q p) (λ l p q. never x (returned_sleeps b.delay y.weight x x.state refl q) p)
     deliver_wakes Request e = λ p q. never x q p
     deliver_wakes Supply e = λ p q. never x (supplied_active e) p
 
@@ -119,7 +121,7 @@ module _ (b : Sheet) (r : StepRecord) (h : Sound b) where
   acts Release c n = (λ p q. absurd (true_not_false (sym q)), λ p. refl)
   acts Move c n = (λ p q. never (unit_at b r.unit) q p, λ p. refl)
 
-pub step_advances : (b : Sheet) (r : StepRecord) → Sound b → (step b r).answer ≡ 0 → start_count b r ≡ 0 → Advances b (step b r).sheet
+pub step_advances : (b : Sheet) (r : StepRecord) → Sound b → number_of (step b r).answer ≡ 0 → start_count b r ≡ 0 → Advances b (step b r).sheet
 step_advances b r h z n =
     let a : Action = action_of r.kind in
     let c = accepted_as b r h a refl z in

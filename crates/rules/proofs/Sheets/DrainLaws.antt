@@ -7,6 +7,9 @@ use Prim.Native.Nat.{ℕ, zero, suc, ◌+◌, ◌*◌, ◌≤◌, ◌<◌}
 use native.Mathlib.Nat.{mul-le-mul_left}
 use native.Mathlib.Omega.{arith}
 use lib.ListN.{length}
+use Rattle.std.specs.Prelude.{Ok}
+use Rattle.refusals.specs.Numbers.{number_of}
+use Rattle.refusals.specs.declared.Refusal.TheVariants.{SlotEmpty}
 use Rattle.rules.specs.Facts.{Claims, check, fails}
 use Rattle.rules.specs.Records.{is_empty, is_waiting, blank_unit, blank_slot, Idle, Active, Waiting, Kind, Empty, Work, Return, Request, Supply, Deliver, Tick, Release, UnitRecord, Slot, StepRecord}
 use Rattle.rules.specs.Sheets.Sheet.{unit_at, slot_at, Sheet, Outcome}
@@ -38,21 +41,21 @@ drain_length b (r ∷ rs) h q z =
 
 -- ---- on a quiet board with something out, some step is accepted
 -- an effect of a delivered return is no refusal
-return_answer : (b : Sheet) (u s debt d : ℕ) (x : UnitRecord) (y : Slot) → (applied b Deliver u s (return_effect debt d x y)).answer ≡ 0
+return_answer : (b : Sheet) (u s debt d : ℕ) (x : UnitRecord) (y : Slot) → number_of (applied b Deliver u s (Ok (return_effect debt d x y))).answer ≡ 0
 unfolding applied
-return_answer b u s debt d x y = root_or_other (λ z w. (applied b Deliver u s z).answer ≡ 0) y.to 0 _ _ (λ e. refl) (λ l. refl)
+return_answer b u s debt d x y = root_or_other (λ z w. number_of (applied b Deliver u s (Ok z)).answer ≡ 0) y.to 0 _ _ (λ e. refl) (λ l. refl)
 
 module _ (b : Sheet) (h : Sound b) (q : Quiet b) where
   deliver_longer : (s : ℕ) → s < b.m → (slot_at b s).kind ≡ Return → Longer sheets b
   deliver_longer s l e =
-      let checks : Claims (asked (checks_on b (way_step b (returns s)) Deliver)) = subst (λ (k : Kind). Claims (asked (check (fails (is_empty k)) 35 ∷ grant_fits b.debt k))) (sym e) (refl, tt) in
+      let checks : Claims (asked (checks_on b (way_step b (returns s)) Deliver)) = subst (λ (k : Kind). Claims (asked (check (fails (is_empty k)) SlotEmpty ∷ grant_fits b.debt k))) (sym e) (refl, tt) in
       let does : Kind → Outcome = λ k. applied b Deliver (slot_at b s).to s (deliver_effect b.debt b.delay (unit_at b (slot_at b s).to) (slot_at b s) k) in
       let done = step_does b (way_step b (returns s)) h Deliver refl (l, tt) checks ∙ ap does e in
       record {
         way = returns s;
         there = (l, e);
         fits = omega (arith, h.s1_sizes, l);
-        is_step = (ap (λ (o : Outcome). o.answer) done ∙ return_answer b (slot_at b s).to s b.debt b.delay (unit_at b (slot_at b s).to) (slot_at b s), refl);
+        is_step = (ap (λ (o : Outcome). number_of o.answer) done ∙ return_answer b (slot_at b s).to s b.debt b.delay (unit_at b (slot_at b s).to) (slot_at b s), refl);
       }
 
   -- a filled slot is a return; with slot 0 empty a waiting unit can tick or be released
@@ -74,8 +77,8 @@ module _ (b : Sheet) (h : Sound b) (q : Quiet b) where
       fits = elim [ zero ↦ omega (arith, h.s1_sizes, l) | suc k ↦ omega (arith, h.s1_sizes, l) ]
 
       steps_on : (k : ℕ) → (unit_at b i).countdown ≡ k → DrainStep b (wait_step i k)
-      steps_on zero z = (ap (λ (o : Outcome). o.answer) (step_does b (wait_step i 0) h Release refl (l, (omega (arith, h.s1_sizes), tt)) (ap is_waiting e, (z, (free, tt)))), refl)
-      steps_on (suc k) z = (ap (λ (o : Outcome). o.answer) (step_does b (wait_step i (suc k)) h Tick refl (l, tt) (ap is_waiting e, (omega (arith, z), tt))), refl)
+      steps_on zero z = (ap (λ (o : Outcome). number_of o.answer) (step_does b (wait_step i 0) h Release refl (l, (omega (arith, h.s1_sizes), tt)) (ap is_waiting e, (z, (free, tt)))), refl)
+      steps_on (suc k) z = (ap (λ (o : Outcome). number_of o.answer) (step_does b (wait_step i (suc k)) h Tick refl (l, tt) (ap is_waiting e, (omega (arith, z), tt))), refl)
 
   -- a unit with weight is waiting, since none is active
   unit_longer : (i : ℕ) → 1 ≤ (unit_at b i).weight → is_empty (slot_at b 0).kind ≡ true → Longer sheets b

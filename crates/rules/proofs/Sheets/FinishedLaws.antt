@@ -6,9 +6,11 @@ use Prim.Native.Nat.{ℕ, ◌<◌}
 use native.Mathlib.Omega.{arith}
 use lib.Dec.{eqb}
 use borrow.Author.Tests.{eqb-true, eq-eqb}
+use Rattle.refusals.specs.declared.Refusal.{Refusal}
+use Rattle.std.specs.Prelude.{Result, Ok}
 use Rattle.rules.specs.Facts.{one_if}
 use Rattle.rules.specs.Sheets.Sheet.{unit_at, slot_at, Sheet}
-use Rattle.rules.specs.Records.{blank_unit, blank_slot, Idle, Kind, Empty, Work, Return, Request, Supply, Working, Finished}
+use Rattle.rules.specs.Records.{blank_unit, blank_slot, Idle, Kind, Empty, Work, Return, Request, Supply, Verdict, Working, Finished}
 use Rattle.rules.specs.Sheets.Sound.{units_weight, slots_weight, Sound}
 use Rattle.rules.specs.Sheets.Finished.{told_from, verdict, Complete}
 use Rattle.rules.proofs.FactLaws.{by_test}
@@ -17,16 +19,16 @@ use Rattle.rules.proofs.Sheets.SoundLaws.{sound_tested, below_or_not, unit_past_
 use Rattle.rules.proofs.Sheets.EntryLaws.{idle_is, empty_is, unit_row_as, slot_row_as, pending_as, suspended_active, pending_suspended, idle_at_zero}
 
 -- the verdict on a sound sheet is told from the debt
-pub verdict_sound : (b : Sheet) → Sound b → verdict b ≡ told_from b.debt
+pub verdict_sound : (b : Sheet) → Sound b → verdict b ≡ Ok (told_from b.debt)
 unfolding verdict
 verdict_sound b h = rw (sound_tested b h)
 
-pub finished_debt : (b : Sheet) → Sound b → verdict b ≡ Finished → b.debt ≡ 0
+pub finished_debt : (b : Sheet) → Sound b → verdict b ≡ Ok Finished → b.debt ≡ 0
 finished_debt b h e =
-    eqb-true b.debt 0 (by_test (λ t. cond t Finished Working ≡ Finished → t ≡ true) (eqb b.debt 0) (λ q f. refl) (λ q f. cc) (sym (verdict_sound b h) ∙ e))
+    eqb-true b.debt 0 (by_test (λ t. ◌≡◌ {A = Result Verdict Refusal} (Ok (cond t Finished Working)) (Ok Finished) → t ≡ true) (eqb b.debt 0) (λ q f. refl) (λ q f. cc) (sym (verdict_sound b h) ∙ e))
 
-pub debt_finished : (b : Sheet) → Sound b → b.debt ≡ 0 → verdict b ≡ Finished
-debt_finished b h e = verdict_sound b h ∙ ap (λ (t : Bool). cond t Finished Working) (eq-eqb b.debt 0 e)
+pub debt_finished : (b : Sheet) → Sound b → b.debt ≡ 0 → verdict b ≡ Ok Finished
+debt_finished b h e = verdict_sound b h ∙ ap (λ (t : Bool). Ok (cond t Finished Working)) (eq-eqb b.debt 0 e)
 
 module _ (b : Sheet) (h : Sound b) where
   -- a slot with no weight that is not empty is a request, whose sender is suspended, so active
@@ -63,5 +65,5 @@ module _ (b : Sheet) (h : Sound b) where
     h.s5_s6_debt,
   )
 
-  pub finished_complete : (verdict b ≡ Finished) ↔ Complete b
+  pub finished_complete : (verdict b ≡ Ok Finished) ↔ Complete b
   finished_complete = (λ e. complete_of (finished_debt b h e), λ c. debt_finished b h (debt_of c))

@@ -9,6 +9,8 @@ use native.Mathlib.Omega.{arith}
 use lib.ListN.{get_or, set, replicate}
 use lib.Seq.{get_or-set_same, get_or-set_other, set-get_or, set-set}
 use lib.Dec.{eqb-suc-zero}
+use Rattle.std.specs.Prelude.{Ok}
+use Rattle.refusals.specs.Numbers.{number_of}
 use Rattle.rules.specs.Records.{is_empty, is_waiting, blank_unit, blank_slot, Waiting, Return, Action, Deliver, Tick, Release, OnSlot, OnBoth, UnitRecord, Slot, StepRecord}
 use Rattle.rules.specs.Facts.{Claims}
 use Rattle.rules.specs.Effects.{message, waiting_with, returned, deliver_checks, deliver_effect, created_by, processed_by}
@@ -59,10 +61,10 @@ leaves_then b rs qs {us} {vs} {ys} {zs} l f = append_drains steps undrained_coun
 
 -- ---- one step: what it does not change is stored where it stood
 step_leaves : (b : Sheet) (r : StepRecord) (a : Action) (u s debt : ℕ) (x : UnitRecord) (y : Slot) → Sound b → undrained_count b r ≡ 0 → created_by a ≡ 0 → processed_by (slot_at b s) a ≡ 0
-    → step b r ≡ applied b a u s (OnBoth x y debt) → Leaves b (r ∷ []) (set b.units u x) (set b.slots s y)
+    → step b r ≡ applied b a u s (Ok (OnBoth x y debt)) → Leaves b (r ∷ []) (set b.units u x) (set b.slots s y)
 unfolding applied DrainOf after_all
 step_leaves b r a u s debt x y h n p q e = (
-  ((ap (λ (o : Outcome). o.answer) e, n), tt),
+  ((ap (λ (o : Outcome). number_of o.answer) e, n), tt),
   record {
     debt = debt;
     is = ap (λ (o : Outcome). o.sheet) e ∙ rw (set-get_or b.parents u 0, none_counted b.created u (created_by a) p, none_counted b.processed u (processed_by (slot_at b s) a) q);
@@ -98,7 +100,7 @@ release_leaves b u s w h l k e free =
 -- a return delivered, by what its slot holds
 module _ (b : Sheet) (r f v w : ℕ) (h : Sound b) (l : r < b.m) (e : slot_at b r ≡ message Return f v w) where
   -- it leaves the slot empty, and the unit as the effect says
-  deliver_leaves : (x : UnitRecord) (debt : ℕ) → applied b Deliver v r (deliver_effect b.debt b.delay (unit_at b v) (message Return f v w) Return) ≡ applied b Deliver v r (OnBoth x blank_slot debt)
+  deliver_leaves : (x : UnitRecord) (debt : ℕ) → applied b Deliver v r (deliver_effect b.debt b.delay (unit_at b v) (message Return f v w) Return) ≡ applied b Deliver v r (Ok (OnBoth x blank_slot debt))
       → Leaves b (deliver_of r ∷ []) (set b.units v x) (set b.slots r blank_slot)
   deliver_leaves x debt q =
       step_leaves b (deliver_of r) Deliver v r debt x blank_slot h refl refl (ap (λ (y : Slot). processed_by y Deliver) e)
@@ -114,8 +116,8 @@ idle_leaves : (b : Sheet) (r f v w : ℕ) → Sound b → r < b.m → slot_at b 
     → Leaves b (deliver_of r ∷ []) (set b.units (suc v) (waiting_with (0 + w) b.delay)) (set b.slots r blank_slot)
 idle_leaves b r f v w h l e idle =
     deliver_leaves b r f (suc v) w h l e (waiting_with (0 + w) b.delay) b.debt
-    (ap (λ (t : Bool). applied b Deliver (suc v) r (cond t (OnSlot blank_slot (b.debt - w)) (OnBoth (returned b.delay (unit_at b (suc v)) w (unit_at b (suc v)).state) blank_slot b.debt))) (eqb-suc-zero v)
-    ∙ ap (λ (x : UnitRecord). applied b Deliver (suc v) r (OnBoth (returned b.delay x w x.state) blank_slot b.debt)) idle)
+    (ap (λ (t : Bool). applied b Deliver (suc v) r (Ok (cond t (OnSlot blank_slot (b.debt - w)) (OnBoth (returned b.delay (unit_at b (suc v)) w (unit_at b (suc v)).state) blank_slot b.debt)))) (eqb-suc-zero v)
+    ∙ ap (λ (x : UnitRecord). applied b Deliver (suc v) r (Ok (OnBoth (returned b.delay x w x.state) blank_slot b.debt))) idle)
 
 -- ---- the journey, within so many turns
 -- what stood there is stored again

@@ -8,6 +8,7 @@ use native.Mathlib.Decide.{ℕ_discrete}
 use native.Mathlib.Omega.{arith}
 use lib.ListN.{length, get_or, set, replicate, length-append, length-replicate, get_or-eq_default}
 use lib.Seq.{get_or-set_other, set-get_or}
+use Rattle.std.specs.Prelude.{Ok}
 use Rattle.rules.specs.Records.{is_empty, is_active, blank_unit, blank_slot, State, Idle, Active, Waiting, Kind, Empty, Work, Return, Request, Supply, Finished, UnitRecord, Slot, StepRecord}
 use Rattle.rules.specs.Sheets.Sheet.{unit_at, slot_at, Sheet}
 use Rattle.rules.specs.Sheets.Sound.{Sound}
@@ -186,7 +187,7 @@ list_leaves b s h q l free =
     slots_leave (replaced b (swept b.units blank_unit (length b.units)) b.slots debt) s g
     (record { none_active = λ i. ap (λ (x : UnitRecord). is_active x.state) (swept_all b.units blank_unit i); no_work = q.no_work }) l free (swept_all b.units blank_unit))
 
-pub list_finishes : (b : Sheet) (s : ℕ) → Sound b → Quiet b → s < b.m → slot_at b s ≡ blank_slot → verdict (after b (longest_list b s)) ≡ Finished
+pub list_finishes : (b : Sheet) (s : ℕ) → Sound b → Quiet b → s < b.m → slot_at b s ≡ blank_slot → verdict (after b (longest_list b s)) ≡ Ok Finished
 list_finishes b s h q l free =
     let w = list_leaves b s h q l free in
     (finished_complete (after b (longest_list b s)) w.1.sound).1

@@ -10,6 +10,8 @@ use lib.ListN.{set}
 use lib.Dec.{ltb}
 use lib.Seq.{set-get_or}
 use borrow.Author.Tests.{eq-eqb, ltb-true}
+use Rattle.refusals.specs.declared.Refusal.{Refusal}
+use Rattle.std.specs.Prelude.{Result, Ok}
 use Rattle.rules.specs.Facts.{sum_of, one_if}
 use Rattle.rules.specs.Records.{is_empty, is_active, is_waiting, is_work, is_return, blank_unit, blank_slot, State, Idle, Active, Waiting, Kind, Empty, Work, Return, Request, Supply, Action, Unknown, Start, Send, RequestStep, Deliver, Rest, Tick, Release, Move, Effect, UnitRecord, Slot, StepRecord}
 use Rattle.rules.specs.Sheets.Sheet.{parent_at, unit_at, slot_at, Sheet, Outcome}
@@ -86,7 +88,7 @@ module _ (b : Sheet) (h : Sound b) (q : Quiet b) where
   -- ---- the steps that can be accepted
   module _ (r : StepRecord) where
     -- the board after an effect at these places
-    abbrev LowerBy : Action → ℕ → ℕ → Effect → Type 0
+    abbrev LowerBy : Action → ℕ → ℕ → Result Effect Refusal → Type 0
     LowerBy a u s e = Shortens b (applied b a u s e).sheet
 
     tick_lower : AcceptedAs b r Tick → LowerBy Tick r.unit 0 (done_on b r Tick)
@@ -135,10 +137,10 @@ module _ (b : Sheet) (h : Sound b) (q : Quiet b) where
       returned_lower l Active z = absurd (not_active v z)
       returned_lower l Waiting z = waits_lower _ (omega (arith, unit_row_as b h v Waiting receiver_used z)) l
 
-      return_lower : LowerBy Deliver v r.slot (return_effect b.debt b.delay x y)
+      return_lower : LowerBy Deliver v r.slot (Ok (return_effect b.debt b.delay x y))
       unfolding applied
       return_lower =
-          root_or_other (λ z w. LowerBy Deliver v r.slot z) v 0 _ _ (λ z. lower_both v r.slot x blank_slot _ receiver_used (shown 14 c) (q.none_active v) refl (omega (arith, slot_worth_as r.slot Return e)))
+          root_or_other (λ z w. LowerBy Deliver v r.slot (Ok z)) v 0 _ _ (λ z. lower_both v r.slot x blank_slot _ receiver_used (shown 14 c) (q.none_active v) refl (omega (arith, slot_worth_as r.slot Return e)))
           (λ l. returned_lower l x.state refl)
 
     deliver_lower : AcceptedAs b r Deliver → LowerBy Deliver (slot_at b r.slot).to r.slot (done_on b r Deliver)

@@ -5,6 +5,7 @@ use mathlib.Core.List.{List, [], ◌∷◌}
 use Prim.Native.Nat.{ℕ, ◌-◌}
 use lib.Dec.{eqb}
 use borrow.Author.Tests.{eq-eqb}
+use Rattle.std.specs.Prelude.{Ok}
 use Rattle.rules.specs.Facts.{Check}
 use Rattle.rules.specs.Records.{blank_unit, Action, Unknown, Start, Send, RequestStep, Deliver, Rest, Tick, Release, Move, Effect, OnUnit, Slot, Change, StepRecord}
 use Rattle.rules.specs.Actions.{action_of}
@@ -37,7 +38,7 @@ pub record Slotless (r : StepRecord) (a : Action) : Type 0 where
 rest_change : (r : StepRecord) (g : Ground) (e : UnitEntry) (y z : Slot) → change_from r Rest g e y ≡ with_slot (change_from r Rest g e z) y
 rest_change r g e y z =
     let rests : Bool → Effect = λ t. cond t (OnUnit blank_unit (g.debt - e.unit.weight)) (OnUnit (waiting_with e.unit.weight g.delay) g.debt) in
-    let with : Bool → Slot → Change = λ t v. change_of (rests t) e.unit e.parent v g.debt e.counts (counted e.counts v Rest) in
+    let with : Bool → Slot → Change = λ t v. change_of (Ok (rests t)) e.unit e.parent v g.debt e.counts (counted e.counts v Rest) in
     by_test (λ t. with t y ≡ with_slot (with t z) y) (eqb r.unit 0) (λ q. refl) (λ q. refl)
 
 -- ---- of units these spots have u alone, of slots s alone or none

@@ -6,6 +6,7 @@ use native.Mathlib.Nat.{le_refl}
 use native.Mathlib.Omega.{arith}
 use lib.Dec.{leb}
 use borrow.Author.Tests.{leb-true, eq-eqb, ne_eqb}
+use Rattle.std.specs.Prelude.{Ok}
 use Rattle.rules.specs.Facts.{Claims, one_if}
 use Rattle.rules.specs.Sheets.Sheet.{unit_at, slot_at, counts_at, Sheet, Outcome}
 use Rattle.rules.specs.Records.{is_empty, is_work, grant, ceiling, full, blank_unit, blank_slot, State, Idle, Active, Waiting, Kind, Empty, Work, Return, Request, Supply, Action, Unknown, Start, Send, RequestStep, Deliver, Rest, Tick, Release, Move, OnSlot, OnBoth, UnitRecord, Slot, StepRecord}
@@ -77,7 +78,7 @@ module _ (b : Sheet) (r : StepRecord) (h : Sound b) where
 
   rest_fits : AcceptedAs b r Rest → FitsEffect b r.unit 0 (done_on b r Rest)
   rest_fits c =
-      root_or_other (λ e w. FitsEffect b r.unit 0 e) r.unit 0 _ _
+      root_or_other (λ e w. FitsEffect b r.unit 0 (Ok e)) r.unit 0 _ _
       (λ e. unit_change b h r.unit 0 blank_unit _ (shown 13 c) first_slot (refl, (refl, (refl, tt))) (sym (shown 32 c)) (omega (arith, weights_fit b h r.unit 0)) (omega (arith, debt_ceiling)))
       (λ l.
       let active = unit_row_as b h r.unit Active (shown 13 c) (active_is _ (shown 31 c)) in
@@ -136,12 +137,12 @@ module _ (b : Sheet) (r : StepRecord) (h : Sound b) where
     unmoved : (k : Kind) → y.kind ≡ k → ((i : ℕ) → pending_in i y k ≡ 0) → (i : ℕ) → 0 ≡ pending_in i y y.kind
     unmoved k e none i = sym (pending_as i y k e ∙ none i)
 
-    work_fits : y.kind ≡ Work → FitsEffect b y.to r.slot (OnBoth (worked x y.weight) blank_slot b.debt)
+    work_fits : y.kind ≡ Work → FitsEffect b y.to r.slot (Ok (OnBoth (worked x y.weight) blank_slot b.debt))
     work_fits e =
         let row = slot_row_as b h r.slot Work used e in
         emptied (worked x y.weight) row.1.0 (omega (arith, row)) (omega (arith, unmoved Work e (λ i. refl) y.to)) (λ i n. unmoved Work e (λ k. refl) i) refl
 
-    supply_fits : y.kind ≡ Supply → FitsEffect b y.to r.slot (OnBoth (supplied x y.weight) blank_slot b.debt)
+    supply_fits : y.kind ≡ Supply → FitsEffect b y.to r.slot (Ok (OnBoth (supplied x y.weight) blank_slot b.debt))
     supply_fits e =
         let row = slot_row_as b h r.slot Supply used e in
         let here : pending_in y.to y y.kind ≡ 1 = pending_as y.to y Supply e ∙ ap one_if (eq-eqb y.to y.to refl) in
@@ -150,7 +151,7 @@ module _ (b : Sheet) (r : StepRecord) (h : Sound b) where
         emptied (supplied x y.weight) row.1.0 (state_row_lem b.delay y.to (supplied x y.weight) Active active (omega (arith, row, unit_row_as b h y.to Active row.1.0 active)))
         (omega (arith, here, ap one_if suspended)) (λ i n. sym (pending_as i y Supply e ∙ ap one_if (ne_eqb y.to i (λ q. n (sym q))))) refl
 
-    granted_fits : y.kind ≡ Request → FitsEffect b y.to r.slot (OnSlot (message Supply 0 y.from grant) (b.debt + grant))
+    granted_fits : y.kind ≡ Request → FitsEffect b y.to r.slot (Ok (OnSlot (message Supply 0 y.from grant) (b.debt + grant)))
     granted_fits e =
         let row = slot_row_as b h r.slot Request used e in
         slot_change b h y.to r.slot (message Supply 0 y.from grant) (b.debt + grant) (omega (arith, row, h.s1_sizes)) used (refl, (row.0, (refl, tt))) (λ i. sym (pending_as i y Request e))
@@ -182,9 +183,9 @@ module _ (b : Sheet) (r : StepRecord) (h : Sound b) where
           let waiting = unit_row_as b h y.to Waiting receiver q in
           waits_fits _ (omega (arith, waiting)) l waiting.1.1.0
 
-      return_fits : FitsEffect b y.to r.slot (return_effect b.debt b.delay x y)
+      return_fits : FitsEffect b y.to r.slot (Ok (return_effect b.debt b.delay x y))
       return_fits =
-          root_or_other (λ z w. FitsEffect b y.to r.slot z) y.to 0 _ _
+          root_or_other (λ z w. FitsEffect b y.to r.slot (Ok z)) y.to 0 _ _
           (λ q. slot_change b h y.to r.slot blank_slot (b.debt - y.weight) receiver used (omega arith) kept (omega (arith, weights_fit b h 0 r.slot)) (omega (arith, debt_ceiling)))
           (λ l. returned_fits l x.state refl)
 
@@ -227,7 +228,7 @@ module _ (b : Sheet) (r : StepRecord) (h : Sound b) where
   deliver_counts u Empty = tt
   deliver_counts u Work = delivered u blank_slot refl
   deliver_counts u Return =
-      root_or_other (λ z w. CountsFitEffect b Deliver u r.slot z) (slot_at b r.slot).to 0 _ _ (λ e. delivered u blank_slot refl) (λ l. delivered u blank_slot refl)
+      root_or_other (λ z w. CountsFitEffect b Deliver u r.slot (Ok z)) (slot_at b r.slot).to 0 _ _ (λ e. delivered u blank_slot refl) (λ l. delivered u blank_slot refl)
   deliver_counts u Request = delivered u _ refl
   deliver_counts u Supply = delivered u blank_slot refl
 
@@ -245,7 +246,7 @@ module _ (b : Sheet) (r : StepRecord) (h : Sound b) where
   step_counts RequestStep c = filled RequestStep _ (shown 34 c) (nothing_made RequestStep r.unit refl) refl
   step_counts Deliver c = deliver_counts (slot_at b r.slot).to (slot_at b r.slot).kind
   step_counts Rest c =
-      root_or_other (λ z w. CountsFitEffect b Rest r.unit 0 z) r.unit 0 _ _ (λ e. counts_fit_lem Rest _ 0 _ (nothing_made Rest _ refl) refl) (λ l. counts_fit_lem Rest _ 0 _ (nothing_made Rest _ refl) refl)
+      root_or_other (λ z w. CountsFitEffect b Rest r.unit 0 (Ok z)) r.unit 0 _ _ (λ e. counts_fit_lem Rest _ 0 _ (nothing_made Rest _ refl) refl) (λ l. counts_fit_lem Rest _ 0 _ (nothing_made Rest _ refl) refl)
   step_counts Tick c = counts_fit_lem Tick r.unit 0 _ (nothing_made Tick r.unit refl) refl
   step_counts Release c = filled Release _ (shown 34 c) (nothing_made Release r.unit refl) refl
   step_counts Move c = counts_fit_lem Move r.unit 0 _ (nothing_made Move r.unit refl) refl

@@ -7,6 +7,7 @@ use native.Mathlib.Omega.{arith}
 use lib.ListN.{get_or, set}
 use lib.Seq.{get_or-set_other}
 use borrow.Author.Tests.{eqb-true, eqb-false, eq-eqb}
+use Rattle.refusals.specs.Numbers.{number_of}
 use Rattle.rules.specs.Facts.{Claims, Check}
 use Rattle.rules.specs.Records.{blank_unit, blank_slot, Action, Unknown, Start, Send, RequestStep, Deliver, Rest, Tick, Release, Move, Slot, Change, StepRecord}
 use Rattle.rules.specs.Actions.{action_of, is_action}
@@ -20,7 +21,7 @@ use Rattle.rules.proofs.Sheets.Accepted.{AcceptedAs, shown, step_does, accepted_
 use Rattle.rules.proofs.Sheets.SpotLaws.{unit_entry, entry_at, Ground, ground_of, same_store, unit_else, slot_kept}
 use Rattle.rules.proofs.Sheets.ReachLaws.{checks_from, change_from, with_slot, Slotless, SlotReached, its_slot, no_slot, Reaches, reaches}
 
-module _ (b : Sheet) (r : StepRecord) (h : Sound b) (z : (step b r).answer ≡ 0) where
+module _ (b : Sheet) (r : StepRecord) (h : Sound b) (z : number_of (step b r).answer ≡ 0) where
   abbrev a : Action
   a = action_of r.kind
 
@@ -123,8 +124,8 @@ module _ (b : Sheet) (r : StepRecord) (h : Sound b) (z : (step b r).answer ≡ 0
         step_does c r k a refl (subst (λ (x : Ground). Claims (asked (place_checks x.n x.m r a))) (sym g) told.places) (subst (λ (cs : List Check). Claims (asked cs)) (sym find.checks_same) told.records)
         ∙ (λ i. stored c (find.unit_same i) s (find.change_same i))
 
-    pub repeats_accepted : (step c r).answer ≡ 0
-    repeats_accepted = ap (λ (o : Outcome). o.answer) repeats ∙ sym (ap (λ (o : Outcome). o.answer) stores_change) ∙ z
+    pub repeats_accepted : number_of (step c r).answer ≡ 0
+    repeats_accepted = ap (λ (o : Outcome). number_of o.answer) repeats ∙ sym (ap (λ (o : Outcome). number_of o.answer) stores_change) ∙ z
 
     pub repeats_ground : ground_of (step c r).sheet ≡ ground_of (step b r).sheet
     repeats_ground =

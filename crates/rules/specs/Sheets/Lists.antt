@@ -1,5 +1,6 @@
 -- A list of steps: the sheet after it, its answers, and its history, each read on the sheet just before the step.
 use Rattle.std.specs.Prelude.{Bool, cond, ◌&&◌, ◌||◌, List, ℕ, eqb}
+use Rattle.refusals.specs.Numbers.{number_of}
 use Rattle.rules.specs.Facts.{one_if}
 use Rattle.rules.specs.Events.{Events, after_all, all_answers, accepts, tally_all}
 use Rattle.rules.specs.Records.{is_return, is_request, Action, Start, Deliver, Rest, Move, UnitRecord, Slot, StepRecord}
@@ -9,7 +10,7 @@ use Rattle.rules.specs.Sheets.Steps.{step}
 
 -- steps as events: each gets the sheet that the step before it left; after a refusal that is the same sheet
 abbrev pub steps : Events Sheet StepRecord
-steps = record { next = λ b r. (step b r).sheet; answer = λ b r. (step b r).answer }
+steps = record { next = λ b r. (step b r).sheet; answer = λ b r. number_of (step b r).answer }
 
 abbrev pub after : Sheet → List StepRecord → Sheet
 after b rs = after_all steps b rs

@@ -1,5 +1,6 @@
 -- A sheet: what a board holds but for its counting rounds, and how it is read.
-use Rattle.std.specs.Prelude.{List, ℕ, get_or}
+use Rattle.std.specs.Prelude.{List, ℕ, get_or, Result}
+use Rattle.refusals.specs.declared.Refusal.{Refusal}
 use Rattle.rules.specs.Records.{blank_unit, blank_slot, UnitRecord, Slot, Counts}
 
 pub record Sheet : Type 0 where
@@ -26,7 +27,7 @@ slot_at b j = get_or b.slots j blank_slot
 abbrev pub counts_at : Sheet → ℕ → Counts
 counts_at b i = record { created = get_or b.created i 0; processed = get_or b.processed i 0 }
 
--- what a step on a sheet gives: the sheet after it, and 0 or the number that refused it
+-- what a step on a sheet gives: the sheet after it, and the answer
 pub record Outcome : Type 0 where
   pub sheet : Sheet
-  pub answer : ℕ
+  pub answer : Result (Unit {0}) Refusal

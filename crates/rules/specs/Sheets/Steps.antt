@@ -1,5 +1,7 @@
 -- A step on a sheet: the bracket, what it does, and where that is stored.
-use Rattle.std.specs.Prelude.{List, [], ◌∷◌, ℕ, get_or, set}
+use Rattle.std.specs.Prelude.{List, [], ◌∷◌, ℕ, get_or, set, Result, Err}
+use Rattle.refusals.specs.declared.Refusal.{Refusal}
+use Rattle.refusals.specs.declared.Refusal.TheVariants.{NotSound}
 use Rattle.rules.specs.Facts.{Check, check, holds, judge}
 use Rattle.rules.specs.Actions.{action_of}
 use Rattle.rules.specs.Letters.{place_checks, slot_of, unit_by}
@@ -7,7 +9,6 @@ use Rattle.rules.specs.Effects.{record_checks, record_effect, record_rule, count
 use Rattle.rules.specs.Sheets.Sheet.{Sheet, parent_at, unit_at, slot_at, counts_at, Outcome}
 use Rattle.rules.specs.Sheets.Sound.{sound}
 use Rattle.rules.specs.Records.{Action, Effect, UnitRecord, Slot, StepRecord, Change}
-use Rattle.rules.specs.declared.Effect.TheVariants.{Refused}
 
 -- the unit that a step may change: a delivery's is the receiver that its slot names
 abbrev pub unit_of : Sheet → StepRecord → Action → ℕ
@@ -24,16 +25,16 @@ places_on b r a = place_checks b.n b.m r a
 abbrev pub checks_on : Sheet → StepRecord → Action → List Check
 checks_on b r a = record_checks b.debt (unit_at b (unit_of b r a)) (slot_at b (slot_of r a)) (made_at b (unit_of b r a)) a
 
-abbrev pub done_on : Sheet → StepRecord → Action → Effect
+abbrev pub done_on : Sheet → StepRecord → Action → Result Effect Refusal
 done_on b r a = record_effect b.debt b.delay r (unit_at b (unit_of b r a)) (parent_at b (unit_of b r a)) (slot_at b (slot_of r a)) a
 
 -- the whole bracket, then the effect
-abbrev pub effect_by : Sheet → StepRecord → Action → Effect
+abbrev pub effect_by : Sheet → StepRecord → Action → Result Effect Refusal
 effect_by b r a =
-    judge Refused (places_on b r a)
+    judge Err (places_on b r a)
     (record_rule b.debt b.delay r (unit_at b (unit_of b r a)) (parent_at b (unit_of b r a)) (slot_at b (slot_of r a)) (made_at b (unit_of b r a)) a)
 
-unfoldable pub effect : Sheet → StepRecord → Effect
+unfoldable pub effect : Sheet → StepRecord → Result Effect Refusal
 effect b r = effect_by b r (action_of r.kind)
 
 -- the sheet with its parents (M-108), its units, its slots, its debt and its counts replaced
@@ -49,7 +50,7 @@ stored b u s c = record {
       (set b.processed u c.counts.processed);
 }
 
-unfoldable pub applied : Sheet → Action → ℕ → ℕ → Effect → Outcome
+unfoldable pub applied : Sheet → Action → ℕ → ℕ → Result Effect Refusal → Outcome
 applied b a u s e = stored b u s (change_of e (unit_at b u) (parent_at b u) (slot_at b s) b.debt (counts_at b u) (counted (counts_at b u) (slot_at b s) a))
 
 -- a step on a sheet known to be sound
@@ -58,4 +59,4 @@ sound_step b r = applied b (action_of r.kind) (unit_of b r (action_of r.kind)) (
 
 -- a step on any sheet: "30 precedes all"
 unfoldable pub step : Sheet → StepRecord → Outcome
-step b r = judge (λ k. record { answer = k; sheet = b }) (check (holds (sound b)) 30 ∷ []) (sound_step b r)
+step b r = judge (λ k. record { answer = Err k; sheet = b }) (check (holds (sound b)) NotSound ∷ []) (sound_step b r)
