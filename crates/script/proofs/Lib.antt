@@ -1,1 +1,9 @@
+pub mod KindLaws
 pub mod WordLaws
+pub mod AcceptedLaws
+pub mod ReadLaws
+pub mod LetterLaws
+pub mod LineLaws
+pub mod RoundTrip
+pub mod ParentLaws
+pub mod OneToOne

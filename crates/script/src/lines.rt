@@ -1,15 +1,17 @@
 // Reading a line of a script, handed over without its byte 10.
-ghost use Rattle.std.specs.Prelude.{◌≡◌, true};
+ghost use Rattle.std.specs.Prelude.{◌≡◌, true, false};
 ghost use Rattle.rules.specs.Facts.{test};
 ghost use Rattle.numbers.specs.Numbers.{padded, room};
-ghost use Rattle.script.specs.Lines.{reading, is_opening, parents_of, board_line};
+ghost use Rattle.script.specs.Lines.{reading, is_opening, parents_of, board_line, step_by};
 ghost use Rattle.script.specs.Asked.{right_numbers};
 
 use crate::letters::{letter_count, record_by};
 use crate::words::{Word, word_of};
-use crate::{BoardLine, Reading};
-use fields::TAB;
+use crate::{BoardLine, Line};
+use fields::{TAB, end_from, field, field_start};
 use numbers::{ROOM, read_numbers};
+use refusals::Refusal;
+use rules::StepRecord;
 
 // A board line has M, d and any number of parents, a step its letters.
 fn fits_count(word: Word, count: usize) -> bool
@@ -21,39 +23,38 @@ fn fits_count(word: Word, count: usize) -> bool
     }
 }
 
-// What a line of a script says, or the number that refuses it. Length is tested first, so that everything behind it handles at most 255 bytes.
+// What a line of a script says, or what refuses it. Length is tested first, so that everything behind it handles at most 255 bytes.
 // The line is read once: its word, then the number fields behind it.
-pub fn read_line(line: &[u8], first: bool) -> Reading
+pub fn read_line(line: &[u8], first: bool) -> Result<Line, Refusal>
     ensures { result ≡ reading first line.now }
 {
     if line.len() > 255 {
-        return Reading::Refused(21);
+        return Err(Refusal::LineTooLong);
     }
-    let name = fields::field(line, 0);
-    let Ok(word) = word_of(name) else {
-        return Reading::Refused(22);
-    };
+    let name = field(line, 0);
+    let word = word_of(name)?;
     let numbers = read_numbers(line, name.len() + 1);
     if matches!(word, Word::Board) != first {
-        return Reading::Refused(25);
+        return Err(Refusal::BoardLine);
     }
     if !fits_count(word, numbers.count) {
-        return Reading::Refused(23);
+        return Err(Refusal::WrongFieldCount);
     }
-    if numbers.refusal > 0 {
-        return Reading::Refused(numbers.refusal);
-    }
-    let values = numbers.list;
-    match word {
-        Word::Board => Reading::Opens(values[0], values[1], (numbers.count - 2) as u16),
-        Word::Step(action) => Reading::Asks(record_by(action, [values[0], values[1], values[2]])),
-    }
+    let values = numbers.values?;
+    Ok(match word {
+        Word::Board => Line::Opens(values[0], values[1], (numbers.count - 2) as u16),
+        Word::Step(action) => Line::Asks(record_by(action, [values[0], values[1], values[2]])),
+    })
 }
 
-fn opens(r: Reading) -> bool
-    ensures { result ≡ is_opening r }
+// The step that a line asks for where one is due.
+pub fn read_step(line: &[u8]) -> Result<StepRecord, Refusal>
+    ensures { result ≡ step_by (reading false line.now) }
 {
-    matches!(r, Reading::Opens(..))
+    match read_line(line, false)? {
+        Line::Opens(..) => Err(Refusal::BoardLine),
+        Line::Asks(step) => Ok(step),
+    }
 }
 
 // The numbers behind M and d.
@@ -61,9 +62,9 @@ fn parents_of(line: &[u8]) -> [u16; ROOM]
     requires { is_opening (reading true line.now) ≡ true }
     ensures { result ≡ padded room (parents_of line.now) }
 {
-    let start = fields::field_start(line, 2);
-    let end = fields::end_from(line, start, TAB);
-    read_numbers(line, end + 1).list
+    let start = field_start(line, 2);
+    let end = end_from(line, start, TAB);
+    read_numbers(line, end + 1).values.unwrap()
 }
 
 // A first line with its parents, which it has only where it opens a board.
@@ -71,6 +72,9 @@ pub fn read_board(line: &[u8]) -> BoardLine
     ensures { result ≡ board_line line.now }
 {
     let reading = read_line(line, true);
-    let parents = if opens(reading) { parents_of(line) } else { [0; ROOM] };
+    let parents = match reading {
+        Ok(Line::Opens(..)) => parents_of(line),
+        _ => [0; ROOM],
+    };
     BoardLine { reading, parents }
 }

@@ -3,7 +3,7 @@ ghost use Rattle.std.specs.Prelude.{◌≡◌, [], ◌<◌, get_or, MatchResult}
 ghost use Rattle.std.specs.List.{position};
 ghost use Rattle.std.specs.Str.{bytes_eq};
 ghost use Rattle.refusals.specs.declared.Refusal.TheVariants.{UnknownWord};
-ghost use Rattle.rules.specs.Actions.{kinds, kind_of, action_of};
+ghost use Rattle.rules.specs.Actions.{kinds, kind_of};
 ghost use Rattle.script.specs.Words.{words, word_number};
 ghost use Rattle.script.specs.Asked.{Names};
 
@@ -30,22 +30,6 @@ pub(crate) enum Word {
     Step(Action),
 }
 
-pub(crate) fn action(kind: u16) -> Action
-    ensures { result ≡ action_of kind }
-{
-    match kind {
-        1 => Action::Start,
-        2 => Action::Send,
-        3 => Action::Request,
-        4 => Action::Deliver,
-        5 => Action::Rest,
-        6 => Action::Tick,
-        7 => Action::Release,
-        8 => Action::Move,
-        _ => Action::Unknown,
-    }
-}
-
 fn place_among(words: &[&[u8]], name: &[u8]) -> Option<usize>
     ensures { result ≡ position (λ word. bytes_eq name.now word.now) words.now }
 {
@@ -59,7 +43,7 @@ pub(crate) fn word_of(name: &[u8]) -> Result<Word, Refusal>
     match place_among(&WORDS, name) {
         None => Err(Refusal::UnknownWord),
         Some(0) => Ok(Word::Board),
-        Some(kind) => Ok(Word::Step(action(kind as u16))),
+        Some(kind) => Ok(Word::Step(Action::from(kind as u16))),
     }
 }
 
