@@ -3,7 +3,7 @@ ghost use Rattle.std.specs.Prelude.{◌≡◌, true, false};
 ghost use Rattle.rules.specs.Facts.{test};
 ghost use Rattle.numbers.specs.Numbers.{padded, room};
 ghost use Rattle.script.specs.Lines.{reading, is_opening, parents_of, board_line, step_by};
-ghost use Rattle.script.specs.Asked.{right_numbers};
+ghost use Rattle.script.specs.Asked.{right_place, right_numbers};
 
 use crate::letters::{letter_count, record_by};
 use crate::words::{Word, word_of};
@@ -12,6 +12,16 @@ use fields::{TAB, end_from, field, field_start};
 use numbers::{ROOM, read_numbers};
 use refusals::Refusal;
 use rules::StepRecord;
+
+// A board line stands first, and only there.
+fn fits_place(word: Word, first: bool) -> bool
+    ensures { result ≡ right_place first word }
+{
+    match word {
+        Word::Board => first,
+        Word::Step(_) => !first,
+    }
+}
 
 // A board line has M, d and any number of parents, a step its letters.
 fn fits_count(word: Word, count: usize) -> bool
@@ -34,7 +44,7 @@ pub fn read_line(line: &[u8], first: bool) -> Result<Line, Refusal>
     let name = field(line, 0);
     let word = word_of(name)?;
     let numbers = read_numbers(line, name.len() + 1);
-    if matches!(word, Word::Board) != first {
+    if !fits_place(word, first) {
         return Err(Refusal::BoardLine);
     }
     if !fits_count(word, numbers.count) {

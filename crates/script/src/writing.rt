@@ -4,7 +4,7 @@ ghost use Rattle.std.proofs.lemmas.List.Edits.{sets};
 ghost use Rattle.rules.specs.Actions.{action_of, is_known};
 ghost use Rattle.placing.specs.Placing.{Writes};
 ghost use Rattle.numbers.specs.Numbers.{tabbed};
-ghost use Rattle.script.specs.Writing.{letters_of, step_text, step_wrote, step_written};
+ghost use Rattle.script.specs.Writing.{letters_of, longest_step, step_text, step_wrote, step_written};
 
 use crate::words::step_word;
 use decimal::put_tabbed_number;
@@ -39,16 +39,27 @@ fn put_letters(r: StepRecord, action: Action, out: &mut [u8], at: usize) -> Resu
     }
 }
 
+// The line at the start of a buffer that has room for any; the answer is its length.
+fn put_step(r: StepRecord, action: Action, out: &mut [u8]) -> Result<usize, Refusal>
+    requires { (action ≡ action_of r.kind) × (is_known action ≡ true) × (longest_step ≤ length out.old) }
+    ensures wrote { result ≡ Ok (length (step_text r)) }
+    ensures bytes { out.new ≡ sets out.old 0 (step_text r) }
+    ensures fits { length (step_text r) ≤ length out.old }
+{
+    let from = put_bytes(step_word(action), out, 0)?;
+    let end = put_letters(r, action, out, from)?;
+    out[end] = b'\n';
+    Ok(end + 1)
+}
+
 // The line at the start of a buffer. It is put together apart, so that its whole length is known before the buffer changes.
 fn step_line(r: StepRecord, action: Action, out: &mut [u8]) -> Result<usize, Refusal>
     requires { (action ≡ action_of r.kind) × (is_known action ≡ true) }
     ensures { Writes (step_text r) 0 out.old result out.new }
 {
     let mut text = [0; 32];
-    let from = put_bytes(step_word(action), &mut text, 0)?;
-    let end = put_letters(r, action, &mut text, from)?;
-    text[end] = b'\n';
-    put_bytes(&text[..=end], out, 0)
+    let n = put_step(r, action, &mut text)?;
+    put_bytes(&text[..n], out, 0)
 }
 
 // A step as a line of a script at a place of a buffer: refused by 16 where its kind is none, by 27 where the line does not fit. The kind is

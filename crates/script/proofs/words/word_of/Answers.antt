@@ -14,4 +14,4 @@ returns-in-Some-eq0 c = let h = rw c.in-Some-eq0.is at (place_found c.args.name.
 pub returns-in-Some : goal.returns-in-Some
 returns-in-Some c =
     let h = rw c.in-Some.is at (place_found c.args.name.now c.place_among.ensures) in
-    (omega (arith, c.in-Some.kind-test.1), omega arith, c.action.ensures ∙ ap action_of h.0)
+    (omega (arith, c.in-Some.kind-test.1), omega arith, c.from.ensures ∙ ap action_of h.0)
