@@ -1,4 +1,5 @@
 pub mod TestLaws
-pub mod NumberTests
+pub mod AnyLaws
 pub mod RowLaws
 pub mod SlotLaws
+pub mod UnitLaws

@@ -1,6 +1,6 @@
 -- What a test says where its claim is refuted, and where it holds.
 use mathlib.Core.Path.{◌≡◌, refl, sym}
-use mathlib.Core.Bool.{Bool, true, false}
+use mathlib.Core.Bool.{Bool, true, false, ◌&&◌}
 use mathlib.Core.List.{List}
 use Prim.Native.Nat.{ℕ}
 use native.Mathlib.Omega.{arith}
@@ -16,6 +16,11 @@ not_true_false false h = refl
 
 pub false_not_true : (t : Bool) → t ≡ false → t ≡ true → ⊥
 false_not_true t p q = let z : ◌≡◌ {A = ℕ} 0 1 = cc in omega arith
+
+-- the last test of a row decides where the others are true
+pub and_true : (t : Bool) → t ≡ (t && true)
+and_true true = refl
+and_true false = refl
 
 -- a row of facts
 pub refuted : (fs : List Fact) → (Claims fs → ⊥) → false ≡ tests fs

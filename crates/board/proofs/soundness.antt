@@ -1,2 +1,1 @@
-pub mod UnitLaws
 pub mod SoundTest

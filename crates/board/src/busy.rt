@@ -9,26 +9,12 @@ use rules::{Slot, UnitRecord};
 pub fn some_active(units: [UnitRecord; 64]) -> bool
     ensures { result ≡ some (λ u. is_active u.state) units }
 {
-    for i in 0..64 {
-        let u = units[i];
-        let state = u.state;
-        if state.is_active() {
-            return true;
-        }
-    }
-    false
+    units.iter().any(|u| u.state.is_active())
 }
 
 // Whether work is under way in some slot.
 pub fn some_work(slots: [Slot; 256]) -> bool
     ensures { result ≡ some (λ y. is_work y.kind) slots }
 {
-    for i in 0..256 {
-        let y = slots[i];
-        let kind = y.kind;
-        if kind.is_work() {
-            return true;
-        }
-    }
-    false
+    slots.iter().any(|y| y.kind.is_work())
 }

@@ -4,7 +4,8 @@ ghost use Rattle.rules.specs.Sheets.Depths.{depth};
 ghost use Rattle.rules.specs.Depths.{depth_answer};
 
 use crate::soundness::is_sound;
-use rules::{Board, Depth};
+use refusals::Refusal;
+use rules::Board;
 
 // The unit number falls at each call, since a parent has a lower one.
 fn depth_along(parents: &[u16; 64], u: u16) -> u16
@@ -15,22 +16,18 @@ fn depth_along(parents: &[u16; 64], u: u16) -> u16
     if u == 0 {
         return 0;
     }
-    let p = parents[u as usize];
-    depth_along(parents, p) + 1
+    depth_along(parents, parents[usize::from(u)]) + 1
 }
 
 // The depth of a unit on a sound board: the number of parents to go to until unit 0.
-pub fn depth_of(b: Board, u: u16) -> Depth
+pub fn depth_of(b: Board, u: u16) -> Result<u16, Refusal>
     ensures { result ≡ depth_answer b u }
 {
-    let sound = is_sound(b);
-    let n = b.n;
-    if !sound {
-        return Depth::Refused(30);
+    if !is_sound(b) {
+        return Err(Refusal::NotSound);
     }
-    if u >= n {
-        return Depth::Refused(13);
+    if u >= b.n {
+        return Err(Refusal::NoSuchUnit);
     }
-    let ps = b.parents;
-    Depth::Deep(depth_along(&ps, u))
+    Ok(depth_along(&b.parents, u))
 }

@@ -5,7 +5,6 @@ mod busy;
 mod counts;
 mod depths;
 mod opening;
-mod rows;
 mod slots;
 mod soundness;
 mod units;
@@ -19,22 +18,22 @@ ghost use Rattle.rules.specs.declared.Verdict.TheVariants.{Finished};
 pub use busy::{some_active, some_work};
 pub use depths::depth_of;
 pub use opening::{blank, no_round, open};
+use refusals::Refusal;
 use rules::{Board, Verdict};
 pub use soundness::is_sound;
 
 // Finished is told exactly of the sound boards on which every unit is idle and every slot empty, however they came about.
 // It carries the guarantee too: of the board of every accepted opening and list of steps.
-pub fn finished(b: Board) -> Verdict
+pub fn finished(b: Board) -> Result<Verdict, Refusal>
     ensures told { result ≡ verdict b }
-    ensures complete { (result ≡ Finished → Complete b) × (sound b ≡ true → Complete b → result ≡ Finished) }
+    ensures complete { (result ≡ Ok Finished → Complete b) × (sound b ≡ true → Complete b → result ≡ Ok Finished) }
     ensures carried { Carries b [] b }
 {
     if !is_sound(b) {
-        return Verdict::Refused(30);
+        return Err(Refusal::NotSound);
     }
-    let debt = b.debt;
-    if debt == 0 {
-        return Verdict::Finished;
+    if b.debt == 0 {
+        return Ok(Verdict::Finished);
     }
-    Verdict::Working
+    Ok(Verdict::Working)
 }

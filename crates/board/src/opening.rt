@@ -4,53 +4,31 @@ ghost use Rattle.rules.specs.Facts.{judge};
 ghost use Rattle.rules.specs.Rounds.{no_round};
 ghost use Rattle.rules.specs.Opening.{lower_parents, opening_checks, blank_board, opening};
 
-use rules::{Board, Kind, Outcome, Round, Rounds, Slot, State, UnitRecord};
+use refusals::Refusal;
+use rules::{BLANK_SLOT, BLANK_UNIT, Board, NO_ROUND, Outcome, Rounds};
 
 // No counting round: none is visited, and both totals are 0.
 pub fn no_round() -> Rounds
     ensures { result ≡ no_round }
 {
-    let visited = [false; 64];
-    Rounds {
-        round: Round::None,
-        visited,
-        processed: 0,
-        created: 0,
-    }
+    NO_ROUND
 }
 
-// The board that a refused opening hands back. Apart from the loops: a repeated record becomes a store for each element.
+// The board that a refused opening hands back.
 pub fn blank() -> Board
     ensures { result ≡ blank_board }
 {
-    let unit = UnitRecord {
-        weight: 0,
-        countdown: 0,
-        state: State::Idle,
-        suspended: false,
-    };
-    let slot = Slot {
-        weight: 0,
-        from: 0,
-        to: 0,
-        kind: Kind::Empty,
-    };
-    let parents = [0u16; 64];
-    let units = [unit; 64];
-    let slots = [slot; 256];
-    let created = [0u32; 64];
-    let processed = [0u64; 64];
     Board {
         n: 0,
         m: 0,
         delay: 0,
         debt: 0,
-        parents: parents,
-        units: units,
-        slots: slots,
-        created,
-        processed,
-        rounds: no_round(),
+        parents: [0; 64],
+        units: [BLANK_UNIT; 64],
+        slots: [BLANK_SLOT; 256],
+        created: [0; 64],
+        processed: [0; 64],
+        rounds: NO_ROUND,
     }
 }
 
@@ -58,43 +36,23 @@ pub fn blank() -> Board
 fn are_lower(parents: &[u16]) -> bool
     ensures { result ≡ lower_parents parents.now }
 {
-    let mut i = 0;
-    while i < parents.len() {
-        let unit = i + 1;
-        if wide(parents[i]) >= unit {
-            return false;
-        }
-        i = unit;
-    }
-    true
+    parents
+        .iter()
+        .enumerate()
+        .all(|(i, &p)| usize::from(p) <= i)
 }
 
-fn wide(x: u16) -> usize
-    ensures { result ≡ x }
+// Nothing is narrowed before it is tested.
+fn may_open(m: u16, d: u16, parents: &[u16]) -> Result<(), Refusal>
+    ensures { result ≡ judge Err (opening_checks m d parents.now) (Ok tt) }
 {
-    x as usize
-}
-
-// 0, or the number that refuses the opening. Nothing is narrowed before it is tested.
-fn refusal(m: u16, d: u16, parents: &[u16]) -> u16
-    ensures { result ≡ judge (λ k. k) (opening_checks m d parents.now) 0 }
-{
-    if parents.len() > 63 {
-        return 11;
-    }
-    if m < 1 {
-        return 11;
-    }
-    if m > 256 {
-        return 11;
-    }
-    if d > 255 {
-        return 11;
+    if parents.len() > 63 || m < 1 || m > 256 || d > 255 {
+        return Err(Refusal::BoardSize);
     }
     if !are_lower(parents) {
-        return 12;
+        return Err(Refusal::ParentOrder);
     }
-    0
+    Ok(())
 }
 
 // The parent entries of a board: 0 for unit 0, then the parents, then 0.
@@ -102,12 +60,8 @@ fn parent_entries(parents: &[u16]) -> [u16; 64]
     requires { length parents.now ≤ 63 }
     ensures { result ≡ 0 ∷ parents.now ++ replicate (63 - length parents.now) 0 }
 {
-    let mut all = [0u16; 64];
-    let mut i = 0;
-    while i < parents.len() {
-        all[i + 1] = parents[i];
-        i += 1;
-    }
+    let mut all = [0; 64];
+    all[1..=parents.len()].copy_from_slice(parents);
     all
 }
 
@@ -115,17 +69,20 @@ fn parent_entries(parents: &[u16]) -> [u16; 64]
 pub fn open(m: u16, d: u16, parents: &[u16]) -> Outcome
     ensures { result ≡ opening m d parents.now }
 {
-    let refused = refusal(m, d, parents);
-    let mut b = blank();
-    if refused == 0 {
-        let all = parent_entries(parents);
-        b.n = parents.len() as u16 + 1;
-        b.m = m;
-        b.delay = d;
-        b.parents = all;
+    if let Err(refusal) = may_open(m, d, parents) {
+        return Outcome {
+            answer: Err(refusal),
+            board: blank(),
+        };
     }
     Outcome {
-        answer: refused,
-        board: b,
+        answer: Ok(()),
+        board: Board {
+            n: parents.len() as u16 + 1,
+            m,
+            delay: d,
+            parents: parent_entries(parents),
+            ..blank()
+        },
     }
 }

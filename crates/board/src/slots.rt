@@ -1,53 +1,29 @@
-// What is asked of a single slot, and the unit that it pends for.
-ghost use Rattle.std.specs.Prelude.{◌≡◌};
-ghost use Rattle.rules.specs.Facts.{tests, one_if};
-ghost use Rattle.rules.specs.Records.{is_work};
+// What is asked of the slots: of each, and of all in one pass.
+ghost use Rattle.std.specs.Prelude.{◌≡◌, ◌≤◌, is_some, IfSome};
+ghost use Rattle.rules.specs.Facts.{tests};
 ghost use Rattle.rules.specs.Sheets.Sound.{kind_row, slot_row};
-ghost use Rattle.board.specs.Passes.{pends_for};
+ghost use Rattle.rules.specs.Boards.{view};
+ghost use Rattle.board.specs.Passes.{pends_for, slots_row, AreTotals};
 
-use crate::rows::{all3, all4};
-use rules::{GRANT, Kind, Slot};
+use rules::{Board, GRANT, Kind, Slot};
 
-fn empty_fits(y: Slot) -> bool
-    ensures { result ≡ tests (kind_row 0 y Kind.Empty) }
-{
-    all3(y.from == 0, y.to == 0, y.weight == 0)
-}
-
-fn work_fits(y: Slot, n: u16) -> bool
-    ensures { result ≡ tests (kind_row n y Kind.Work) }
-{
-    all3(y.from < n, y.to < n, y.weight >= 1)
-}
-
-fn return_fits(y: Slot, n: u16) -> bool
-    ensures { result ≡ tests (kind_row n y Kind.Return) }
-{
-    all4(y.from >= 1, y.from < n, y.to < y.from, y.weight >= 1)
-}
-
-fn request_fits(y: Slot, n: u16) -> bool
-    ensures { result ≡ tests (kind_row n y Kind.Request) }
-{
-    all3(y.from < n, y.to == 0, y.weight == 0)
-}
-
-fn supply_fits(y: Slot, n: u16) -> bool
-    ensures { result ≡ tests (kind_row n y Kind.Supply) }
-{
-    all3(y.from == 0, y.to < n, y.weight == GRANT)
+// What the slots leave of the debt, how many of them are work, and for each unit how many pend for it.
+#[derive(Clone, Copy)]
+pub(crate) struct Totals {
+    pub left: u64,
+    pub work: u64,
+    pub pending: [u16; 64],
 }
 
 fn kind_fits(y: Slot, n: u16) -> bool
     ensures { result ≡ tests (kind_row n y y.kind) }
 {
-    let k = y.kind;
-    match k {
-        Kind::Empty => empty_fits(y),
-        Kind::Work => work_fits(y, n),
-        Kind::Return => return_fits(y, n),
-        Kind::Request => request_fits(y, n),
-        Kind::Supply => supply_fits(y, n),
+    match y.kind {
+        Kind::Empty => y.from == 0 && y.to == 0 && y.weight == 0,
+        Kind::Work => y.from < n && y.to < n && y.weight >= 1,
+        Kind::Return => y.from >= 1 && y.from < n && y.to < y.from && y.weight >= 1,
+        Kind::Request => y.from < n && y.to == 0 && y.weight == 0,
+        Kind::Supply => y.from == 0 && y.to < n && y.weight == GRANT,
     }
 }
 
@@ -55,37 +31,42 @@ fn kind_fits(y: Slot, n: u16) -> bool
 pub(crate) fn slot_fits(y: Slot, j: usize, m: u16, n: u16) -> bool
     ensures { result ≡ tests (slot_row n m j y) }
 {
-    let k = y.kind;
-    if k.is_empty() {
-        return empty_fits(y);
-    }
-    if j >= m as usize {
-        return false;
-    }
-    kind_fits(y, n)
+    (y.kind.is_empty() || j < usize::from(m)) && kind_fits(y, n)
 }
 
-// The unit that a slot is a request from or a supply to; for any other slot a number that no unit has.
-pub(crate) fn pends_for(y: Slot) -> u16
+// The unit that a slot is a request from or a supply to.
+pub(crate) fn pends_for(y: Slot) -> Option<u16>
     ensures { result ≡ pends_for y y.kind }
 {
-    let k = y.kind;
-    match k {
-        Kind::Empty => 64,
-        Kind::Work => 64,
-        Kind::Return => 64,
-        Kind::Request => y.from,
-        Kind::Supply => y.to,
+    match y.kind {
+        Kind::Request => Some(y.from),
+        Kind::Supply => Some(y.to),
+        Kind::Empty | Kind::Work | Kind::Return => None,
     }
 }
 
-// 1 where the slot is work under way.
-pub(crate) fn work_in(y: Slot) -> u64
-    ensures { result ≡ one_if (is_work y.kind) }
+// The totals of the slots, where each fits and their weight is at most the debt.
+pub(crate) fn slots_fit(b: &Board) -> Option<Totals>
+    requires { b.now.n ≤ 64 }
+    ensures fit { is_some result ≡ tests (slots_row (view b.now)) }
+    ensures totals { IfSome result (λ t. AreTotals (view b.now) t.left t.work t.pending) }
 {
-    let k = y.kind;
-    if k.is_work() {
-        return 1;
+    let mut left = b.debt;
+    let mut work: u64 = 0;
+    let mut pending = [0u16; 64];
+    for (j, &y) in b.slots.iter().enumerate() {
+        if !slot_fits(y, j, b.m, b.n) || y.weight > left {
+            return None;
+        }
+        left -= y.weight;
+        work += u64::from(y.kind.is_work());
+        if let Some(u) = pends_for(y) {
+            pending[usize::from(u)] += 1;
+        }
     }
-    0
+    Some(Totals {
+        left,
+        work,
+        pending,
+    })
 }

@@ -1,38 +1,20 @@
-// What is asked of a single unit, its parent entry and what is pending for it.
+// What is asked of the units, with their parent entries and what is pending for them: of each, and of all in one pass.
 ghost use Rattle.std.specs.Prelude.{◌≡◌, eqb};
 ghost use Rattle.rules.specs.Facts.{tests, one_if};
 ghost use Rattle.rules.specs.Sheets.Sound.{state_row, unit_row, parent_row};
-ghost use Rattle.board.specs.Passes.{entry_row};
+ghost use Rattle.rules.specs.Boards.{view};
+ghost use Rattle.board.specs.Passes.{entry_row, units_row};
 
-use crate::rows::{all3, all4};
-use rules::{State, UnitRecord};
-
-fn idle_fits(u: UnitRecord) -> bool
-    ensures { result ≡ tests (state_row 0 0 u State.Idle) }
-{
-    all3(u.weight == 0, u.countdown == 0, !u.suspended)
-}
-
-fn active_fits(u: UnitRecord) -> bool
-    ensures { result ≡ tests (state_row 0 0 u State.Active) }
-{
-    all3(true, u.weight >= 1, u.countdown == 0)
-}
-
-fn waiting_fits(u: UnitRecord, i: usize, delay: u16) -> bool
-    ensures { result ≡ tests (state_row delay i u State.Waiting) }
-{
-    all4(u.weight >= 1, u.countdown <= delay, !u.suspended, i >= 1)
-}
+use crate::slots::Totals;
+use rules::{Board, State, UnitRecord};
 
 fn state_fits(u: UnitRecord, i: usize, delay: u16) -> bool
     ensures { result ≡ tests (state_row delay i u u.state) }
 {
-    let s = u.state;
-    match s {
-        State::Idle => idle_fits(u),
-        State::Active => active_fits(u),
-        State::Waiting => waiting_fits(u, i, delay),
+    match u.state {
+        State::Idle => u.weight == 0 && u.countdown == 0 && !u.suspended,
+        State::Active => u.weight >= 1 && u.countdown == 0,
+        State::Waiting => u.weight >= 1 && u.countdown <= delay && !u.suspended && i >= 1,
     }
 }
 
@@ -40,47 +22,39 @@ fn state_fits(u: UnitRecord, i: usize, delay: u16) -> bool
 fn unit_fits(u: UnitRecord, i: usize, n: u16, delay: u16) -> bool
     ensures { result ≡ tests (unit_row n delay i u) }
 {
-    let s = u.state;
-    if s.is_idle() {
-        return idle_fits(u);
-    }
-    if i >= n as usize {
-        return false;
-    }
-    state_fits(u, i, delay)
+    (u.state.is_idle() || i < usize::from(n)) && state_fits(u, i, delay)
 }
 
 // Parent 0 fits everywhere.
 fn parent_fits(p: u16, i: usize, n: u16) -> bool
     ensures { result ≡ tests (parent_row n i p) }
 {
-    if p == 0 {
-        return true;
-    }
-    if i >= n as usize {
-        return false;
-    }
-    (p as usize) < i
+    p == 0 || (i < usize::from(n) && usize::from(p) < i)
 }
 
 fn pending_fits(count: u16, suspended: bool) -> bool
     ensures { result ≡ eqb count (one_if suspended) }
 {
-    if suspended {
-        return count == 1;
-    }
-    count == 0
+    count == u16::from(suspended)
 }
 
 // Unit i with its parent p, where so many slots are pending for it.
-pub(crate) fn entry_fits(u: UnitRecord, p: u16, count: u16, i: usize, n: u16, delay: u16) -> bool
+fn entry_fits(u: UnitRecord, p: u16, count: u16, i: usize, n: u16, delay: u16) -> bool
     ensures { result ≡ tests (entry_row n delay i u p count) }
 {
-    if !unit_fits(u, i, n, delay) {
-        return false;
+    unit_fits(u, i, n, delay) && parent_fits(p, i, n) && pending_fits(count, u.suspended)
+}
+
+// Whether each unit fits, and their weight is what the slots leave of the debt.
+pub(crate) fn units_fit(b: &Board, slots: &Totals) -> bool
+    ensures { result ≡ tests (units_row (view b.now) slots.now.left slots.now.pending) }
+{
+    let mut left = slots.left;
+    for (i, &u) in b.units.iter().enumerate() {
+        if !entry_fits(u, b.parents[i], slots.pending[i], i, b.n, b.delay) || u.weight > left {
+            return false;
+        }
+        left -= u.weight;
     }
-    if !parent_fits(p, i, n) {
-        return false;
-    }
-    pending_fits(count, u.suspended)
+    left == 0
 }

@@ -1,4 +1,4 @@
--- What is claimed of the census: it is refused by the number of the sizes first, then by the opening's own; its counts add up; its rows of no steps,
+-- What is claimed of the census: it is refused by its sizes first, then by the opening's own; its counts add up; its rows of no steps,
 -- and of one step with one unit and one slot.
 use mathlib.Core.Path.{◌≡◌, refl, sym, ap, ◌∙◌}
 use mathlib.Core.Bool.{Bool, true, false, cond}
@@ -8,21 +8,23 @@ use native.Mathlib.Omega.{arith}
 use lib.ListN.{length, drop}
 use lib.Dec.{leb, eqb}
 use borrow.Author.Tests.{ne_eqb, eqb-false}
+use Rattle.std.specs.Prelude.{Result, Ok, Err}
+use Rattle.refusals.specs.declared.Refusal.{Refusal}
+use Rattle.refusals.specs.declared.Refusal.TheVariants.{CensusSize}
+use Rattle.refusals.specs.Numbers.{number_of}
 use Rattle.rules.specs.Facts.{Check, judge, Fact, fails, Claims, Each, each, one_if, sum_of}
 use Rattle.rules.specs.Opening.{opening_checks, fresh, refused_by, opening}
 use Rattle.rules.specs.Records.{is_active, blank_unit, grant}
 use Rattle.rules.specs.declared.Outcome.{Outcome}
 use Rattle.rules.specs.declared.Board.{Board}
 use Rattle.rules.specs.declared.StepRecord.{StepRecord}
-use Rattle.rules.proofs.FactLaws.{judge_passed, each_claims}
-use Rattle.rules.proofs.JudgeLaws.{Numbered, refusal_number, judge_by_number, judge_map, judge_append, number_claims}
+use Rattle.rules.proofs.FactLaws.{each_claims}
+use Rattle.rules.proofs.JudgeLaws.{checks_answer, answered, judge_by_answer, judge_map, judge_append, answer_claims}
 use Rattle.rules.proofs.FreshSound.{opening_passed, opening_fresh}
 use Rattle.rules.proofs.Theorem.{opening_sound}
-use Rattle.census.specs.Choices.{choices, numbers_from, for_each, steps_in}
+use Rattle.census.specs.Choices.{choices, for_each, steps_in}
 use Rattle.census.specs.Counting.{ends_from, size_checks, census, ending_count}
 use Rattle.census.specs.Claims.{ChoicesNumber, CountsAddUp, BeyondFirst, NoSteps, OneStep}
-use Rattle.census.specs.declared.Counted.{Counted}
-use Rattle.census.specs.declared.Counted.TheVariants.{Lists, Refused}
 use Rattle.census.proofs.ChoiceLaws.{choices_number}
 use Rattle.census.proofs.SortLaws.{ends_add_up, sort_finished, sort_unfinished}
 use Rattle.census.proofs.counting.TurnLaws.{Ready}
@@ -41,72 +43,70 @@ use Rattle.census.specs.declared.Ends.{Ends}
 use Rattle.census.proofs.EndingLaws.{ending_next}
 
 -- an accepted opening gives the fresh board
-pub opened_fresh : (m d : ℕ) (ps : List ℕ) → (opening m d ps).answer ≡ 0 → opening m d ps ≡ record { answer = 0; board = fresh m d ps }
+pub opened_fresh : (m d : ℕ) (ps : List ℕ) → number_of (opening m d ps).answer ≡ 0 → opening m d ps ≡ record { answer = Ok tt; board = fresh m d ps }
 opened_fresh m d ps e = opening_fresh m d ps (opening_passed m d ps e)
 
--- a judgement whose number is 0 gives its result, any other refuses by its number
-passes : {A : Type 0} (refused : ℕ → A) (cs : List Check) (result : A) → Numbered cs → refusal_number cs ≡ 0 → judge refused cs result ≡ result
-passes refused cs result n e = judge_passed refused cs result (number_claims cs n e)
-
-refuses : {A : Type 0} (refused : ℕ → A) (cs : List Check) (result : A) → Numbered cs → (refusal_number cs ≡ 0 → ⊥) → judge refused cs result ≡ refused (refusal_number cs)
-refuses refused cs result n e = judge_by_number refused cs result n ∙ rw (ne_eqb (refusal_number cs) 0 e)
+-- a judgement by what its checks answer
+by_checks : {A : Type 0} (cs : List Check) (result : Result A Refusal) (q : Result (Unit {0}) Refusal) → checks_answer cs ≡ q → judge Err cs result ≡ answered Err result q
+by_checks cs result q e = judge_by_answer Err cs result ∙ ap (answered Err result) e
 
 module _ (m d : ℕ) (ps : List ℕ) (k : ℕ) where
-  abbrev beyond : ℕ
-  beyond = refusal_number (size_checks m d ps k)
+  -- what the checks of the sizes answer
+  abbrev by_sizes : Result (Unit {0}) Refusal
+  by_sizes = checks_answer (size_checks m d ps k)
 
   -- what the opening's own checks leave of a census
-  abbrev opened : Counted
-  opened = judge Refused (opening_checks m d ps) (Lists (ends_from (fresh m d ps) k))
+  abbrev opened : Result Ends Refusal
+  opened = judge Err (opening_checks m d ps) (Ok (ends_from (fresh m d ps) k))
 
-  by_size : census m d ps k ≡ judge Refused (size_checks m d ps k) opened
+  sizes_first : census m d ps k ≡ judge Err (size_checks m d ps k) opened
   unfolding census
-  by_size = judge_append Refused (size_checks m d ps k) (opening_checks m d ps) (Lists (ends_from (fresh m d ps) k))
+  sizes_first = judge_append Err (size_checks m d ps k) (opening_checks m d ps) (Ok (ends_from (fresh m d ps) k))
 
-  -- the opening's answer is the number of its checks
-  answered : (opening m d ps).answer ≡ refusal_number (opening_checks m d ps)
+  -- the opening's answer is that of its checks
+  opening_answer : (opening m d ps).answer ≡ checks_answer (opening_checks m d ps)
   unfolding opening
-  answered = judge_map (λ (o : Outcome). o.answer) refused_by (opening_checks m d ps) (record { answer = 0; board = fresh m d ps })
+  opening_answer = judge_map (λ (o : Outcome). o.answer) refused_by (opening_checks m d ps) (record { answer = Ok tt; board = fresh m d ps })
 
-  pub census_beyond : (beyond ≡ 0 → ⊥) → census m d ps k ≡ Refused beyond
-  census_beyond n = by_size ∙ refuses Refused (size_checks m d ps k) opened (omega arith) n
+  pub census_beyond : (j : Refusal) → by_sizes ≡ Err j → census m d ps k ≡ Err j
+  census_beyond j e = sizes_first ∙ by_checks (size_checks m d ps k) opened (Err j) e
 
-  pub census_unopened : beyond ≡ 0 → ((opening m d ps).answer ≡ 0 → ⊥) → census m d ps k ≡ Refused (opening m d ps).answer
-  census_unopened e n =
-      by_size
-      ∙ passes Refused (size_checks m d ps k) opened (omega arith) e
-      ∙ refuses Refused (opening_checks m d ps) (Lists (ends_from (fresh m d ps) k)) (omega arith) (λ z. n (answered ∙ z))
-      ∙ ap Refused (sym answered)
+  pub census_unopened : by_sizes ≡ Ok tt → (j : Refusal) → (opening m d ps).answer ≡ Err j → census m d ps k ≡ Err j
+  census_unopened e j q =
+      sizes_first ∙ by_checks (size_checks m d ps k) opened (Ok tt) e ∙ by_checks (opening_checks m d ps) (Ok (ends_from (fresh m d ps) k)) (Err j) (sym opening_answer ∙ q)
 
-  pub census_counted : beyond ≡ 0 → (opening m d ps).answer ≡ 0 → census m d ps k ≡ Lists (ends_from (opening m d ps).board k)
-  census_counted e z =
-      by_size
-      ∙ passes Refused (size_checks m d ps k) opened (omega arith) e
-      ∙ passes Refused (opening_checks m d ps) (Lists (ends_from (fresh m d ps) k)) (omega arith) (sym answered ∙ z)
-      ∙ ap (λ (o : Outcome). Lists (ends_from o.board k)) (sym (opened_fresh m d ps z))
+  pub census_counted : by_sizes ≡ Ok tt → (opening m d ps).answer ≡ Ok tt → census m d ps k ≡ Ok (ends_from (opening m d ps).board k)
+  census_counted e q =
+      sizes_first
+      ∙ by_checks (size_checks m d ps k) opened (Ok tt) e
+      ∙ by_checks (opening_checks m d ps) (Ok (ends_from (fresh m d ps) k)) (Ok tt) (sym opening_answer ∙ q)
+      ∙ ap (λ (o : Outcome). Ok (ends_from o.board k)) (sym (opened_fresh m d ps (ap number_of q)))
 
   -- the fresh board of such sizes is one to count from
-  pub opened_ready : beyond ≡ 0 → (opening m d ps).answer ≡ 0 → Ready (opening m d ps).board × (k ≤ 4)
+  pub opened_ready : by_sizes ≡ Ok tt → (opening m d ps).answer ≡ Ok tt → Ready (opening m d ps).board × (k ≤ 4)
   unfolding fresh
-  opened_ready e z =
-      let c = number_claims (size_checks m d ps k) (omega arith) e in
+  opened_ready e q =
+      let c = answer_claims (size_checks m d ps k) e in
+      let z = ap number_of q in
       let o = opened_fresh m d ps z in
       (((opening_sound m d ps z).0, omega (arith, c.0, ap (λ (o : Outcome). o.board.n) o), omega (arith, c.1.1.0, ap (λ (o : Outcome). o.board.m) o)), c.1.1.1.1.0)
 
--- each check of the sizes refuses by 46
-one_number : (o p q r s : Bool) → let k : ℕ = cond o (cond p (cond q (cond r (cond s 0 46) 46) 46) 46) 46 in (k ≡ 0 → ⊥) → k ≡ 46
-one_number true true true true true n = absurd (n refl)
-one_number true true true true false n = refl
-one_number true true true false s n = refl
-one_number true true false r s n = refl
-one_number true false q r s n = refl
-one_number false p q r s n = refl
+-- each check of the sizes refuses alike
+one_refusal :
+    (o p q r s : Bool) → let a : Result (Unit {0}) Refusal = cond o (cond p (cond q (cond r (cond s (Ok tt) (Err CensusSize)) (Err CensusSize)) (Err CensusSize)) (Err CensusSize)) (Err CensusSize) in (a ≡ Ok tt → ⊥)
+    → a ≡ Err CensusSize
+one_refusal true true true true true n = absurd (n refl)
+one_refusal true true true true false n = refl
+one_refusal true true true false s n = refl
+one_refusal true true false r s n = refl
+one_refusal true false q r s n = refl
+one_refusal false p q r s n = refl
 
 pub beyond_first : BeyondFirst
 unfolding BeyondFirst
 beyond_first m d ps k out =
-    let n : beyond m d ps k ≡ 0 → ⊥ = λ e. let c = number_claims (size_checks m d ps k) (omega arith) e in out (c.0, c.1.0, c.1.1.0, c.1.1.1.0, c.1.1.1.1.0) in
-    census_beyond m d ps k n ∙ ap Refused (one_number (leb (length ps) 2) (leb 1 m) (leb m 2) (leb d 1) (leb k 4) n)
+    census_beyond m d ps k CensusSize
+    (one_refusal (leb (length ps) 2) (leb 1 m) (leb m 2) (leb d 1) (leb k 4) (λ e. let c = answer_claims (size_checks m d ps k) e in out (c.0, c.1.0, c.1.1.0, c.1.1.1.0, c.1.1.1.1.0)))
 
 pub counts_add_up : CountsAddUp
 unfolding CountsAddUp ChoicesNumber fresh
@@ -144,11 +144,11 @@ start_zero = record { kind = 1; unit = 0; other = 0; slot = 0 }
 
 -- a step that the fresh board refuses
 abbrev refused_row : ℕ → ℕ → StepRecord → List Fact
-refused_row d i r = fails (eqb (sound_step (fresh 1 d []) r).answer 0) ∷ []
+refused_row d i r = fails (eqb (number_of (sound_step (fresh 1 d []) r).answer) 0) ∷ []
 
 -- the six others are refused, as computing them shows
 others_refused : (d : ℕ) → Each (refused_row d) (drop 1 (choices 1 1))
-unfolding choices for_each steps_in numbers_from each fresh sound_step sheet_sound_step effect applied record_rule
+unfolding choices for_each steps_in each fresh sound_step sheet_sound_step effect applied record_rule
 others_refused d = each_claims (refused_row d) (drop 1 (choices 1 1)) refl
 
 -- a board whose unit 0 is active is busy: the sum of the active units has a part of 1
@@ -161,7 +161,7 @@ active_busy b a =
 abbrev one_and_six : Ends → Ends → Ends
 one_and_six s t = record { finished = s.finished + 6 * t.finished; busy = s.busy + 6 * t.busy; other = s.other + 6 * t.other }
 
-module _ (d : ℕ) (e : (opening 1 d []).answer ≡ 0) where
+module _ (d : ℕ) (e : number_of (opening 1 d []).answer ≡ 0) where
   abbrev b : Board
   b = (opening 1 d []).board
 
@@ -176,14 +176,14 @@ module _ (d : ℕ) (e : (opening 1 d []).answer ≡ 0) where
   computed r = step_sound b r b_sound ∙ ap (λ (o : Outcome). sound_step o.board r) (opened_fresh 1 d [] e)
 
   one_ending : (is : Board → Bool) → ending_count is b 1 ≡ ending_count is started 0 + 6 * ending_count is b 0
-  unfolding choices for_each steps_in numbers_from sum_of fresh
+  unfolding choices for_each steps_in sum_of fresh
   one_ending is =
       ending_next is b 0
       ∙ ap (λ (o : Outcome). sum_of (λ i r. ending_count is (step b r).board 0) (choices o.board.n o.board.m)) (opened_fresh 1 d [] e)
       ∙ omega (
         arith,
         left_counts (λ c. ending_count is c 0) b (refused_row d) (drop 1 (choices 1 1))
-            (λ i r h. refused_keeps b r (λ z. eqb-false _ 0 h.0 (ap (λ (o : Outcome). o.answer) (sym (computed r)) ∙ z))) (others_refused d),
+            (λ i r h. refused_keeps b r (λ z. eqb-false _ 0 h.0 (ap (λ (o : Outcome). number_of o.answer) (sym (computed r)) ∙ z))) (others_refused d),
       )
 
   -- start 0 brings in 2^24, and unit 0 becomes active

@@ -7,20 +7,21 @@ use Prim.Native.Nat.{ℕ, zero, suc, ◌+◌, ◌*◌, ◌≤◌, ◌<◌}
 use native.Mathlib.Omega.{arith}
 use lib.Dec.{eqb, ltb}
 use borrow.Author.Tests.{eqb-true, eqb-false, not-true, not-false, lt-ltb, le-ltb, ne_eqb}
+use Rattle.std.specs.List.{range_with_len}
+use Rattle.std.specs.Prelude.{Ok, Err}
 use Rattle.rules.specs.Facts.{Fact, below, Claims, tests, sum_of, one_if}
 use Rattle.rules.specs.Actions.{action_of, kind_of}
 use Rattle.rules.specs.Letters.{letters, place_checks, values_of, used_fields, used}
 use Rattle.rules.specs.declared.StepRecord.{StepRecord}
 use Rattle.rules.specs.declared.Action.{Action}
 use Rattle.rules.proofs.FactLaws.{true_not_false, by_test, true_or_not, claims, claims_tested, asked, judge_passed}
-use Rattle.rules.proofs.JudgeLaws.{number_claims}
+use Rattle.rules.proofs.JudgeLaws.{answer_claims}
 use Rattle.rules.proofs.LetterLaws.{record_kind}
-use Rattle.rules.proofs.Sheets.Accepted.{place_numbered}
-use Rattle.census.specs.Choices.{seven_kinds, ranges, numbers_from, for_each, steps_in, choices}
+use Rattle.census.specs.Choices.{seven_kinds, ranges, range_size, for_each, steps_in, choices}
 use Rattle.rules.specs.Busy.{how_many, some}
 use Rattle.census.specs.Claims.{ChoicesNumber, InRange, same_step, times, ChoicesExact}
 use Rattle.census.proofs.ForEachLaws.{sum_parts, length_sum}
-use Rattle.census.proofs.choices.RangeLaws.{range_size, steps_in_length}
+use Rattle.census.proofs.choices.RangeLaws.{steps_in_length}
 
 -- ---- their number: those of one kind are the product of its ranges
 pub choices_number : ChoicesNumber
@@ -31,19 +32,19 @@ choices_number n m =
     ∙ omega arith
 
 -- ---- a number among numbers in a row: not there if it lies before them, else once if it lies below their end
-number_before : (w y i k : ℕ) → y < i → sum_of (λ j x. one_if (eqb y x) * w) (numbers_from i k) ≡ 0
-unfolding sum_of numbers_from
+number_before : (w y i k : ℕ) → y < i → sum_of (λ j x. one_if (eqb y x) * w) (range_with_len i k) ≡ 0
+unfolding sum_of
 number_before w y i zero l = refl
-number_before w y i (suc k) l = rw (ne_eqb y i (λ e. omega arith)) (omega (arith, number_before w y (suc i) k (omega arith)))
+number_before w y i (suc k) l = rw (ne_eqb y i (λ e. omega arith)) (omega (arith, number_before w y (i + 1) k (omega arith)))
 
-number_once : (w y i k end : ℕ) → i + k ≡ end → i ≤ y → sum_of (λ j x. one_if (eqb y x) * w) (numbers_from i k) ≡ one_if (ltb y end) * w
-unfolding sum_of numbers_from
+number_once : (w y i k end : ℕ) → i + k ≡ end → i ≤ y → sum_of (λ j x. one_if (eqb y x) * w) (range_with_len i k) ≡ one_if (ltb y end) * w
+unfolding sum_of
 number_once w y i zero end e l = rw (le-ltb y end (omega arith)) (omega arith)
 number_once w y i (suc k) end e l =
-    let others : ℕ = sum_of (λ j x. one_if (eqb y x) * w) (numbers_from (suc i) k) in
+    let others : ℕ = sum_of (λ j x. one_if (eqb y x) * w) (range_with_len (i + 1) k) in
     by_test (λ t. one_if t * w + others ≡ one_if (ltb y end) * w) (eqb y i)
-    (λ q. let s : y ≡ i = eqb-true y i q in rw (lt-ltb y end (omega arith)) (omega (arith, number_before w y (suc i) k (omega arith))))
-    (λ q. omega (arith, number_once w y (suc i) k end (omega arith) (omega (arith, eqb-false y i q))))
+    (λ q. let s : y ≡ i = eqb-true y i q in rw (lt-ltb y end (omega arith)) (omega (arith, number_before w y (i + 1) k (omega arith))))
+    (λ q. omega (arith, number_once w y (i + 1) k end (omega arith) (omega (arith, eqb-false y i q))))
 
 -- ---- a record among the steps of one kind: once if the kind is its own and each of its fields lies below its range
 abbrev range_row : StepRecord → StepRecord → List Fact
@@ -54,9 +55,9 @@ one_both true t = omega arith
 one_both false t = omega arith
 
 -- a list for each number, w such elements in the one for y and none in the others
-many_once : {B : Type 0} (is : B → Bool) (f : ℕ → List B) (y k w : ℕ) → ((x : ℕ) → how_many is (f x) ≡ one_if (eqb y x) * w) → how_many is (for_each (numbers_from 0 k) f) ≡ one_if (ltb y k) * w
+many_once : {B : Type 0} (is : B → Bool) (f : ℕ → List B) (y k w : ℕ) → ((x : ℕ) → how_many is (f x) ≡ one_if (eqb y x) * w) → how_many is (for_each (range_with_len 0 k) f) ≡ one_if (ltb y k) * w
 unfolding how_many
-many_once is f y k w e = sum_parts (λ z. one_if (is z)) (λ x. one_if (eqb y x) * w) (numbers_from 0 k) f e ∙ number_once w y 0 k k (omega arith) (omega arith)
+many_once is f y k w e = sum_parts (λ z. one_if (is z)) (λ x. one_if (eqb y x) * w) (range_with_len 0 k) f e ∙ number_once w y 0 k k (omega arith) (omega arith)
 
 -- slots within other units within units
 times_in : (r c : StepRecord) → times r (steps_in c) ≡ one_if (eqb r.kind c.kind) * one_if (tests (range_row r c))
@@ -113,7 +114,7 @@ module _ (n m : ℕ) (r : StepRecord) where
   placed : InRange n m r → Placed (action_of r.kind)
   unfolding used
   placed h = (
-    number_claims (place_checks n m r (action_of r.kind)) (place_numbered n m r (action_of r.kind)) h.places,
+    answer_claims (place_checks n m r (action_of r.kind)) h.places,
     ap (λ (q : StepRecord). q.unit) h.unused,
     ap (λ (q : StepRecord). q.other) h.unused,
     ap (λ (q : StepRecord). q.slot) h.unused,
@@ -125,7 +126,7 @@ module _ (n m : ℕ) (r : StepRecord) where
       let ls = letters (action_of r.kind) in
       record {
         kind = e;
-        places = judge_passed (λ k. k) (place_checks n m r (action_of r.kind)) 0 p.0;
+        places = judge_passed Err (place_checks n m r (action_of r.kind)) (Ok tt) p.0;
         unused = λ i. record { kind = record_kind r.kind 0 ls (values_of r ls) i; unit = p.1 i; other = p.2 i; slot = p.3 i };
       }
 

@@ -7,6 +7,8 @@ use native.Mathlib.Nat.{add_comm, mul_comm, pow-suc, pow-zero}
 use native.Mathlib.Omega.{arith}
 use lib.ListN.{length, get_or}
 use borrow.Author.Tests.{eqb-false}
+use Rattle.std.specs.Prelude.{Err}
+use Rattle.refusals.specs.declared.Refusal.TheVariants.{NotSound}
 use Rattle.rules.specs.Facts.{one_if, sum_of}
 use Rattle.rules.specs.Sound.{sound}
 use Rattle.rules.specs.Events.{after_all}
@@ -32,7 +34,7 @@ choices_on b = choices b.n b.m
 pub same_sizes : (b : Board) (r : StepRecord) → ((step b r).board.n ≡ b.n) × ((step b r).board.m ≡ b.m)
 unfolding step sound_step sheet_sound_step applied
 same_sizes b r =
-    by_test (λ t. let c : Board = (cond t (sound_step b r) (record { answer = 30; board = b })).board in (c.n ≡ b.n) × (c.m ≡ b.m)) (sound b) (λ e. (refl, refl)) (λ e. (refl, refl))
+    by_test (λ t. let c : Board = (cond t (sound_step b r) (record { answer = Err NotSound; board = b })).board in (c.n ≡ b.n) × (c.m ≡ b.m)) (sound b) (λ e. (refl, refl)) (λ e. (refl, refl))
 
 -- ---- the lists of one length: their number, and a sum over them by the first step
 pub length_lists : (cs : List StepRecord) (k : ℕ) → length (lists cs k) ≡ length cs ^ k

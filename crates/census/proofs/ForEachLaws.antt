@@ -7,19 +7,7 @@ use native.Mathlib.Omega.{arith}
 use lib.ListN.{length, get_or, get_or-append}
 use lib.Seq.{get_or-append-add}
 use Rattle.rules.specs.Facts.{sum_of}
-use Rattle.census.specs.Choices.{numbers_from, for_each}
-
--- ---- the numbers
-pub length_numbers : (i k : ℕ) → length (numbers_from i k) ≡ k
-unfolding numbers_from
-length_numbers i zero = refl
-length_numbers i (suc k) = ap suc (length_numbers (suc i) k)
-
-pub number_at : (i k j : ℕ) → j < k → get_or (numbers_from i k) j 0 ≡ i + j
-unfolding numbers_from
-number_at i zero j l = absurd (not-suc-le-zero l)
-number_at i (suc k) zero l = omega arith
-number_at i (suc k) (suc j) l = omega (arith, number_at (suc i) k j (le_of_suc-le-suc l))
+use Rattle.census.specs.Choices.{for_each}
 
 -- ---- sums that go by the element alone
 pub sum_append : {A : Type 0} (g : A → ℕ) (xs ys : List A) → sum_of (λ i x. g x) (xs ++ ys) ≡ sum_of (λ i x. g x) xs + sum_of (λ i x. g x) ys

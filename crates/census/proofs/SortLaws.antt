@@ -7,12 +7,14 @@ use native.Mathlib.Omega.{arith}
 use lib.ListN.{length}
 use lib.Dec.{eqb}
 use borrow.Author.Tests.{eq-eqb, ne_eqb}
+use Rattle.std.specs.Prelude.{Result, Ok, Err}
+use Rattle.refusals.specs.declared.Refusal.{Refusal}
 use Rattle.rules.specs.Facts.{one_if, sum_of}
 use Rattle.rules.specs.Records.{is_active, is_work, blank_unit, blank_slot}
 use Rattle.rules.specs.declared.Board.{Board}
 use Rattle.rules.specs.declared.StepRecord.{StepRecord}
 use Rattle.rules.specs.declared.Verdict.{Verdict}
-use Rattle.rules.specs.declared.Verdict.TheVariants.{Working, Finished, Refused}
+use Rattle.rules.specs.declared.Verdict.TheVariants.{Working, Finished}
 use Rattle.rules.specs.Sound.{Sound}
 use Rattle.rules.specs.Finished.{verdict, Complete}
 use Rattle.rules.specs.Lists.{after}
@@ -35,8 +37,10 @@ complete_not_busy b c =
     let slots : some (λ y. is_work y.kind) b.slots ≡ false = none_such _ b.slots blank_slot (λ j l. ap is_work (c.empty j)) in
     λ i. units i || slots i
 
-finished_said : (v : Verdict) → says_finished v ≡ true → v ≡ Finished
-finished_said = elim [ Working ↦ λ e. absurd (true_not_false (sym e)) | Finished ↦ λ e. refl | Refused k ↦ λ e. absurd (true_not_false (sym e)) ]
+finished_said : (v : Result Verdict Refusal) → says_finished v ≡ true → v ≡ Ok Finished
+finished_said (Ok Working) e = absurd (true_not_false (sym e))
+finished_said (Ok Finished) e = refl
+finished_said (Err k) e = absurd (true_not_false (sym e))
 
 pub finished_not_busy : (b : Board) → Sound b → is_finished b ≡ true → is_busy b ≡ false
 unfolding is_finished
@@ -45,7 +49,7 @@ finished_not_busy b h e = complete_not_busy b ((finished_complete b h).0 (finish
 -- finished is told from the debt of a sound board
 told_finished : (b : Board) → Sound b → is_finished b ≡ eqb b.debt 0
 unfolding is_finished
-told_finished b h = ap says_finished (verdict_sound b h) ∙ elim (eqb b.debt 0) as (λ t. says_finished (cond t Finished Working) ≡ t) [ true ↦ refl | false ↦ refl ]
+told_finished b h = ap says_finished (verdict_sound b h) ∙ elim (eqb b.debt 0) as (λ t. says_finished (Ok (cond t Finished Working)) ≡ t) [ true ↦ refl | false ↦ refl ]
 
 -- ---- the list of no steps ends on the board itself
 sort_by : (b : Board) (f w : Bool) → is_finished b ≡ f → is_busy b ≡ w → ends_from b 0 ≡ record { finished = one_if f; busy = one_if w; other = one_if (not f && not w) }

@@ -1,3 +1,3 @@
 -- Laws of the choices by number, for the functions of src/choices.rt.
 pub mod RangeLaws
-pub mod PlaceLaws
+pub mod ListedLaws

@@ -1,5 +1,6 @@
 -- The steps to choose from (M-106): those of the seven kinds with every unit and slot in range, and all lists of them of one length.
-use Rattle.std.specs.Prelude.{List, [], ◌∷◌, ◌++◌, ℕ, zero, suc, ◌+◌, ◌*◌}
+use Rattle.std.specs.Prelude.{List, [], ◌∷◌, ℕ, zero, suc, ◌+◌, ◌*◌}
+use Rattle.std.specs.List.{flat_map, range_with_len}
 use Rattle.rules.specs.Actions.{kind_of}
 use Rattle.rules.specs.Letters.{Place, among_units, among_slots, Letter, letters, with_field}
 use Rattle.rules.specs.declared.StepRecord.{StepRecord}
@@ -23,22 +24,20 @@ ranges_of n m k (l ∷ ls) = with_field (ranges_of n m k ls) l.field (range_of n
 abbrev pub ranges : ℕ → ℕ → Action → StepRecord
 ranges n m a = ranges_of n m (kind_of a) (letters a)
 
--- so many numbers from i on
-unfoldable pub numbers_from : ℕ → ℕ → List ℕ
-numbers_from i zero = []
-numbers_from i (suc k) = i ∷ numbers_from (suc i) k
+-- how many steps there are in such ranges
+abbrev pub range_size : StepRecord → ℕ
+range_size c = c.unit * (c.other * c.slot)
 
--- the lists that the elements of a list give, one behind the other
+-- the lists that the elements of a list give, one behind the other, as loops are read
 unfoldable pub for_each : {A B : Type 0} → List A → (A → List B) → List B
-for_each [] f = []
-for_each (x ∷ xs) f = f x ++ for_each xs f
+for_each xs f = flat_map f xs
 
 -- every step of one kind whose fields lie in these ranges
 unfoldable pub steps_in : StepRecord → List StepRecord
 steps_in c =
-    for_each (numbers_from 0 c.unit) (λ u.
-    for_each (numbers_from 0 c.other) (λ v.
-    for_each (numbers_from 0 c.slot) (λ s. record { kind = c.kind; unit = u; other = v; slot = s } ∷ [])))
+    for_each (range_with_len 0 c.unit) (λ u.
+    for_each (range_with_len 0 c.other) (λ v.
+    for_each (range_with_len 0 c.slot) (λ s. record { kind = c.kind; unit = u; other = v; slot = s } ∷ [])))
 
 unfoldable pub choices : ℕ → ℕ → List StepRecord
 choices n m = for_each seven_kinds (λ a. steps_in (ranges n m a))

@@ -1,5 +1,7 @@
 -- The census (M-106): of all lists of one length on a fresh board, how many leave it of each sort.
-use Rattle.std.specs.Prelude.{Bool, List, [], ◌∷◌, ◌++◌, ℕ, length}
+use Rattle.std.specs.Prelude.{Bool, List, [], ◌∷◌, ◌++◌, ℕ, length, Result, Ok, Err}
+use Rattle.refusals.specs.declared.Refusal.{Refusal}
+use Rattle.refusals.specs.declared.Refusal.TheVariants.{CensusSize}
 use Rattle.rules.specs.Facts.{Check, check, at_most, judge}
 use Rattle.rules.specs.Opening.{opening_checks, fresh}
 use Rattle.rules.specs.Lists.{after}
@@ -8,8 +10,6 @@ use Rattle.census.specs.Choices.{choices, lists}
 use Rattle.rules.specs.Busy.{how_many, is_busy}
 use Rattle.census.specs.Sorts.{is_finished, is_other}
 use Rattle.census.specs.declared.Ends.{Ends}
-use Rattle.census.specs.declared.Counted.{Counted}
-use Rattle.census.specs.declared.Counted.TheVariants.{Lists, Refused}
 
 -- how many lists of k choices leave the board b of a sort
 unfoldable pub ending_count : (Board → Bool) → Board → ℕ → ℕ
@@ -21,12 +21,12 @@ ends_from b k = record { finished = ending_count is_finished b k; busy = ending_
 -- 46 more than 2 parents, M outside 1 to 2, d over 1, or k over 4; then the opening's own
 abbrev pub size_checks : ℕ → ℕ → List ℕ → ℕ → List Check
 size_checks m d ps k =
-    check (at_most (length ps) 2) 46
-    ∷ check (at_most 1 m) 46
-    ∷ check (at_most m 2) 46
-    ∷ check (at_most d 1) 46
-    ∷ check (at_most k 4) 46
+    check (at_most (length ps) 2) CensusSize
+    ∷ check (at_most 1 m) CensusSize
+    ∷ check (at_most m 2) CensusSize
+    ∷ check (at_most d 1) CensusSize
+    ∷ check (at_most k 4) CensusSize
     ∷ []
 
-unfoldable pub census : ℕ → ℕ → List ℕ → ℕ → Counted
-census m d ps k = judge Refused (size_checks m d ps k ++ opening_checks m d ps) (Lists (ends_from (fresh m d ps) k))
+unfoldable pub census : ℕ → ℕ → List ℕ → ℕ → Result Ends Refusal
+census m d ps k = judge Err (size_checks m d ps k ++ opening_checks m d ps) (Ok (ends_from (fresh m d ps) k))

@@ -7,33 +7,28 @@ use crate::Ends;
 use board::{some_active, some_work};
 use rules::Board;
 
-// The counts of the three sorts as one record.
-pub(crate) fn ends_of(finished: u32, busy: u32, other: u32) -> Ends
-    ensures { result ≡ record { finished = finished; busy = busy; other = other } }
-{
-    Ends {
-        finished,
-        busy,
-        other,
-    }
-}
+pub(crate) const NO_ENDS: Ends = Ends {
+    finished: 0,
+    busy: 0,
+    other: 0,
+};
 
 // The list of no steps ends on the board itself: 1 for the board's sort.
-pub(crate) fn sort(b: Board) -> Ends
-    requires { Sound b }
-    ensures { result ≡ ends_from b 0 }
+pub(crate) fn sort(b: &Board) -> Ends
+    requires { Sound b.now }
+    ensures { result ≡ ends_from b.now 0 }
 {
-    let debt = b.debt;
-    if debt == 0 {
-        return ends_of(1, 0, 0);
+    if b.debt == 0 {
+        return Ends {
+            finished: 1,
+            ..NO_ENDS
+        };
     }
-    let units = b.units;
-    if some_active(units) {
-        return ends_of(0, 1, 0);
+    if some_active(b.units) || some_work(b.slots) {
+        return Ends { busy: 1, ..NO_ENDS };
     }
-    let slots = b.slots;
-    if some_work(slots) {
-        return ends_of(0, 1, 0);
+    Ends {
+        other: 1,
+        ..NO_ENDS
     }
-    ends_of(0, 0, 1)
 }

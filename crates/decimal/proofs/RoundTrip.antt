@@ -11,7 +11,7 @@ use lib.ListN.{length, get_or}
 use borrow.Author.Tests.{leb-true, le-leb}
 use Rattle.decimal.specs.Spelling.{spell, digit_count, spelled}
 use Rattle.decimal.specs.Reading.{is_digit, all_digits, value_from, is_number, number_of}
-use Rattle.decimal.specs.declared.Number.TheVariants.{Value}
+use Rattle.std.specs.Prelude.{Ok}
 use Rattle.decimal.proofs.CountLaws.{power_pos, below_count, count_some, count_exact, count_reaches}
 use Rattle.decimal.proofs.SpellLaws.{lead_rest, spell_length, spelled_digits, spelled_length}
 
@@ -33,7 +33,7 @@ value_spelled n h = value_spell (digit_count n) 0 n (below_count n h) ∙ omega 
 pub spelled_number : (n : ℕ) → n ≤ 65535 → is_number (spelled n) ≡ true
 spelled_number n h = rw (value_spelled n (omega arith), spelled_digits n (omega arith), le-leb 1 (length (spelled n)) (omega (arith, spelled_length n, count_some n)), le-leb n 65535)
 
-pub number_spelled : (n : ℕ) → n ≤ 65535 → number_of (spelled n) ≡ Value n
+pub number_spelled : (n : ℕ) → n ≤ 65535 → number_of (spelled n) ≡ Ok n
 unfolding number_of
 number_spelled n h = rw (spelled_number n h, value_spelled n (omega arith))
 

@@ -1,61 +1,72 @@
 -- What refuses the calls, and what a call that is not refused knows.
 use mathlib.Core.Path.{◌≡◌, sym, ap, ◌∙◌}
-use mathlib.Core.Bool.{Bool, true, false, cond}
-use mathlib.Core.List.{[], ◌∷◌}
+use mathlib.Core.Bool.{Bool, cond}
+use mathlib.Core.List.{List, [], ◌∷◌}
 use Prim.Native.Nat.{ℕ}
 use native.Mathlib.Omega.{arith}
-use lib.Dec.{leb, eqb}
-use borrow.Author.Tests.{eq-eqb, ne_eqb}
-use Rattle.rules.specs.Facts.{Claims, check, at_most, judge}
+use lib.Dec.{leb}
+use Rattle.std.specs.Prelude.{Result, Ok, Err}
+use Rattle.refusals.specs.declared.Refusal.{Refusal}
+use Rattle.refusals.specs.declared.Refusal.TheVariants.{ShortList}
+use Rattle.rules.specs.Facts.{Claims, Check, check, at_most, test, judge}
 use Rattle.rules.specs.Boards.{view}
 use Rattle.rules.specs.Sheets.Longest.{longest_length}
 use Rattle.rules.specs.declared.Board.{Board}
-use Rattle.rules.proofs.FactLaws.{asked, judge_passed}
-use Rattle.rules.proofs.JudgeLaws.{Numbered, refusal_number, number_claims, judge_by_number, judge_append}
-use Rattle.drains.specs.declared.Longest.{Longest}
-use Rattle.drains.specs.declared.Longest.TheVariants.{Steps, Refused}
+use Rattle.rules.proofs.FactLaws.{by_test, asked, judge_passed}
+use Rattle.rules.proofs.JudgeLaws.{Judged, passed, failed, judged, checks_answer, judge_append}
 use Rattle.drains.specs.Calls.{drain_checks, length_answer, list_answer}
 
-drain_numbered : (b : Board) → Numbered (drain_checks b)
-drain_numbered b = omega arith
+-- an answer is no refusal
+pub ok_not_err : {A : Type 0} {x : A} {k : Refusal} → ◌≡◌ {A = Result A Refusal} (Ok x) (Err k) → ⊥
+ok_not_err e = let z : ◌≡◌ {A = ℕ} 0 1 = cc in omega (arith, z)
 
--- what is known where none refuses
-pub drain_not_refused : (b : Board) → refusal_number (drain_checks b) ≡ 0 → Claims (asked (drain_checks b))
-drain_not_refused b e = number_claims (drain_checks b) (drain_numbered b) e
+-- two results of one call
+pub same_told : {A : Type 0} {x y : A} → ◌≡◌ {A = Result A Refusal} (Ok x) (Ok y) → x ≡ y
+same_told e = cc
 
-pub length_told : (b : Board) → Claims (asked (drain_checks b)) → length_answer b ≡ Steps (longest_length (view b))
-unfolding length_answer
-length_told b h = judge_passed Refused (drain_checks b) (Steps (longest_length (view b))) h
+-- a call that is refused by its first checks is refused alike, whatever its result
+refused_alike : {A B : Type 0} (cs : List Check) (x : A) (result : Result B Refusal) (k : Refusal) → judge Err cs (Ok x) ≡ Err k → judge Err cs result ≡ Err k
+refused_alike [] x result k e = absurd (ok_not_err e)
+refused_alike {A} {B} (check f j ∷ cs) x result k e =
+    by_test (λ t. cond t (judge Err cs (Ok x)) (Err j) ≡ Err k → cond t (judge Err cs result) (Err j) ≡ Err k) (test f) (λ t q. refused_alike cs x result k q) (λ t q. let z : j ≡ k = cc in ap Err z) e
 
--- ---- the answers by the number
-pub length_by_number : (b : Board) → length_answer b ≡ cond (eqb (refusal_number (drain_checks b)) 0) (Steps (longest_length (view b))) (Refused (refusal_number (drain_checks b)))
-unfolding length_answer
-length_by_number b = judge_by_number Refused (drain_checks b) (Steps (longest_length (view b))) (drain_numbered b)
+-- a call that gives a result passed its checks
+passed_by : {A : Type 0} (cs : List Check) (x y : A) → ◌≡◌ {A = Result A Refusal} (judge Err cs (Ok x)) (Ok y) → Claims (asked cs)
+passed_by {A} cs x y e = by_judgement (judged Err cs (Ok x))
+  where
+    by_judgement : Judged {A = Result A Refusal} Err cs (Ok x) → Claims (asked cs)
+    by_judgement (passed c) = c
+    by_judgement (failed k q) = absurd (ok_not_err (sym e ∙ q))
 
-abbrev fitted : Board → ℕ → Longest
-fitted b room = judge Refused (check (at_most (longest_length (view b)) room) 50 ∷ []) (Steps (longest_length (view b)))
+module _ (b : Board) where
+  -- the length is refused by what refuses the checks, and told where they pass
+  pub length_refused : (k : Refusal) → checks_answer (drain_checks b) ≡ Err k → length_answer b ≡ Err k
+  unfolding length_answer
+  length_refused k e = refused_alike {A = Unit {0}} (drain_checks b) tt (Ok (longest_length (view b))) k e
 
-pub list_by_number : (b : Board) (room : ℕ) → list_answer b room ≡ cond (eqb (refusal_number (drain_checks b)) 0) (fitted b room) (Refused (refusal_number (drain_checks b)))
-unfolding list_answer
-list_by_number b room =
-    judge_append Refused (drain_checks b) (check (at_most (longest_length (view b)) room) 50 ∷ []) (Steps (longest_length (view b))) ∙ judge_by_number Refused (drain_checks b) (fitted b room) (drain_numbered b)
+  pub length_told : Claims (asked (drain_checks b)) → length_answer b ≡ Ok (longest_length (view b))
+  unfolding length_answer
+  length_told c = judge_passed Err (drain_checks b) (Ok (longest_length (view b))) c
 
--- where some number refuses, both refuse by it; where none does, the length is told, and 50 is asked
-module _ (b : Board) (k : ℕ) (k-is : k ≡ refusal_number (drain_checks b)) where
-  module _ (n : k ≡ 0 → ⊥) where
-    not_zero : eqb (refusal_number (drain_checks b)) 0 ≡ false
-    not_zero = ne_eqb (refusal_number (drain_checks b)) 0 (λ z. n (k-is ∙ z))
+  pub told_passed : (n : ℕ) → length_answer b ≡ Ok n → Claims (asked (drain_checks b))
+  unfolding length_answer
+  told_passed n e = passed_by (drain_checks b) (longest_length (view b)) n e
 
-    pub length_refused : Refused k ≡ length_answer b
-    length_refused = ap Refused k-is ∙ sym (length_by_number b ∙ ap (λ (t : Bool). cond t (Steps (longest_length (view b))) (Refused (refusal_number (drain_checks b)))) not_zero)
+  pub told_is : (n : ℕ) → length_answer b ≡ Ok n → n ≡ longest_length (view b)
+  told_is n e = same_told (sym e ∙ length_told (told_passed n e))
 
-    pub list_refused : (room : ℕ) → Refused k ≡ list_answer b room
-    list_refused room = ap Refused k-is ∙ sym (list_by_number b room ∙ ap (λ (t : Bool). cond t (fitted b room) (Refused (refusal_number (drain_checks b)))) not_zero)
+  -- with a list, what refuses the length comes first, then the room is asked
+  abbrev by_room : ℕ → Result ℕ Refusal
+  by_room room = judge Err (check (at_most (longest_length (view b)) room) ShortList ∷ []) (Ok (longest_length (view b)))
 
-  module _ (z : k ≡ 0) where
-    is_zero : eqb (refusal_number (drain_checks b)) 0 ≡ true
-    is_zero = eq-eqb (refusal_number (drain_checks b)) 0 (sym k-is ∙ z)
+  room_last : (room : ℕ) → list_answer b room ≡ judge Err (drain_checks b) (by_room room)
+  unfolding list_answer
+  room_last room = judge_append Err (drain_checks b) (check (at_most (longest_length (view b)) room) ShortList ∷ []) (Ok (longest_length (view b)))
 
-    pub list_by_room : (room : ℕ) {t : Bool} → leb (longest_length (view b)) room ≡ t → list_answer b room ≡ cond t (Steps (longest_length (view b))) (Refused 50)
-    list_by_room room e =
-        list_by_number b room ∙ ap (λ (t : Bool). cond t (fitted b room) (Refused (refusal_number (drain_checks b)))) is_zero ∙ ap (λ (t : Bool). cond t (Steps (longest_length (view b))) (Refused 50)) e
+  pub list_refused : (room : ℕ) (k : Refusal) → length_answer b ≡ Err k → list_answer b room ≡ Err k
+  unfolding length_answer
+  list_refused room k e = room_last room ∙ refused_alike (drain_checks b) (longest_length (view b)) (by_room room) k e
+
+  pub list_by_room : (room n : ℕ) → length_answer b ≡ Ok n → {t : Bool} → leb (longest_length (view b)) room ≡ t → list_answer b room ≡ cond t (Ok (longest_length (view b))) (Err ShortList)
+  list_by_room room n e q =
+      room_last room ∙ judge_passed Err (drain_checks b) (by_room room) (told_passed n e) ∙ ap (λ (t : Bool). cond t (Ok (longest_length (view b))) (Err ShortList)) q

@@ -1,3 +1,3 @@
 pub mod Calls
 pub mod Claims
-pub mod Legs
+pub mod Writing

@@ -5,47 +5,35 @@ ghost use Rattle.rules.specs.Busy.{is_busy};
 ghost use Rattle.drains.specs.Calls.{lowest_free, drain_checks};
 
 use board::{is_sound, some_active, some_work};
+use refusals::Refusal;
 use rules::{Board, Slot};
 
-// The lowest free slot.
-pub(crate) fn free_slot(slots: [Slot; 256]) -> u16
-    ensures { result ≡ lowest_free slots }
+// The lowest free slot; 256, a number that no board has, where none is free: the definition says so, and what asks compares with m.
+#[tactic(auto, unfolding(crate::specs::Calls::lowest_free))]
+pub(crate) fn free_slot(slots: &[Slot; 256]) -> u16
+    ensures { result ≡ lowest_free slots.now }
 {
-    for j in 0..256 {
-        let y = slots[j];
-        let kind = y.kind;
-        if kind.is_empty() {
-            return j as u16;
-        }
-    }
-    256
+    slots.iter().position(|y| y.kind.is_empty()).unwrap_or(256) as u16
 }
 
-fn is_busy(b: Board) -> bool
-    ensures { result ≡ is_busy b }
+fn is_busy(b: &Board) -> bool
+    ensures { result ≡ is_busy b.now }
 {
-    let units = b.units;
-    if some_active(units) {
-        return true;
-    }
-    let slots = b.slots;
-    some_work(slots)
+    some_active(b.units) || some_work(b.slots)
 }
 
-// 0, or the number that refuses: 30, 48, 49.
-pub(crate) fn refusal(b: Board) -> u16
-    ensures { result ≡ judge (λ j. j) (drain_checks b) 0 }
+// Whether the board has a longest drain to show.
+pub(crate) fn may_show(b: &Board) -> Result<(), Refusal>
+    ensures { result ≡ judge Err (drain_checks b.now) (Ok tt) }
 {
-    if !is_sound(b) {
-        return 30;
+    if !is_sound(*b) {
+        return Err(Refusal::NotSound);
     }
     if is_busy(b) {
-        return 48;
+        return Err(Refusal::WorkLeft);
     }
-    let slots = b.slots;
-    let m = b.m;
-    if free_slot(slots) >= m {
-        return 49;
+    if free_slot(&b.slots) >= b.m {
+        return Err(Refusal::NoFreeSlot);
     }
-    0
+    Ok(())
 }

@@ -1,114 +1,66 @@
 // The length of the longest drain, by one table of depths.
-ghost use Rattle.std.specs.Prelude.{◌≡◌, ℕ, ◌+◌, ◌*◌, ◌-◌, ◌≤◌, ◌<◌, get_or};
+ghost use Rattle.std.specs.Prelude.{◌≡◌, ℕ, ◌+◌, ◌*◌, ◌^◌, ◌≤◌, ◌<◌, get_or, length};
 ghost use Rattle.rules.specs.Facts.{sum_of};
-ghost use Rattle.rules.specs.Records.{blank_slot};
 ghost use Rattle.rules.specs.Boards.{view};
 ghost use Rattle.rules.specs.Sound.{Sound};
 ghost use Rattle.rules.specs.Sheets.Depths.{depth};
-ghost use Rattle.rules.specs.Sheets.Longest.{unit_length, slot_length, longest_length};
+ghost use Rattle.rules.specs.Sheets.Longest.{longest_length};
 
-use rules::{Board, Kind, Slot, State, UnitRecord};
+use crate::sources::Source;
+use rules::Board;
+
+// How far each unit is from unit 0, and how long a unit waits on the way.
+#[derive(Clone, Copy)]
+pub(crate) struct Distances {
+    pub(crate) depths: [u16; 64],
+    pub(crate) delay: u16,
+}
+
+impl Distances {
+    // The steps on the way from a unit of this depth, which begins to wait: d + 2 for each unit until unit 0.
+    pub(crate) fn way_up(&self, depth: u16) -> usize
+        ensures exact { result ≡ (self.now.delay + 2) * depth }
+        ensures few { result < 2 ^ 33 }
+    {
+        (usize::from(self.delay) + 2) * usize::from(depth)
+    }
+
+    // The steps that all of these can still cause.
+    fn sum<S: Source>(&self, sources: &[S]) -> usize
+        requires few { length sources.now ≤ 256 }
+        requires within { (i : ℕ) (x : S) → i < length sources.now → S.within i (get_or sources.now i x) }
+        ensures exact { result ≡ sum_of (λ i x. S.steps_length self.now i x) sources.now }
+        ensures few { result ≤ 2 ^ 42 }
+    {
+        let mut sum = 0;
+        for (i, source) in sources.iter().enumerate() {
+            sum += source.steps_length(i, self);
+        }
+        sum
+    }
+}
 
 // The depth of each unit, from that of its parent, which has a lower number.
-fn depth_table(parents: [u16; 64]) -> [u16; 64]
-    requires { (i : ℕ) → 1 ≤ i → i < 64 → get_or parents i 0 < i }
-    ensures { (i : ℕ) → i < 64 → get_or result i 0 ≡ depth parents i }
+fn depth_table(parents: &[u16; 64]) -> [u16; 64]
+    requires { (i : ℕ) → 1 ≤ i → i < 64 → get_or parents.now i 0 < i }
+    ensures { (i : ℕ) → i < 64 → get_or result i 0 ≡ depth parents.now i }
 {
-    let mut depths = [0u16; 64];
+    let mut depths = [0; 64];
+    // By the index, since an entry is made from an earlier one.
     for i in 1..64 {
-        let p = parents[i] as usize;
-        depths[i] = depths[p] + 1;
+        depths[i] = depths[usize::from(parents[i])] + 1;
     }
     depths
 }
 
-// The steps on the way from a unit of this depth, which begins to wait: d + 2 for each unit until unit 0.
-fn way_up(d: u16, depth: u16) -> usize
-    ensures exact { result ≡ (d + 2) * depth }
-    ensures few { result < 8589934592 }
-{
-    (d as usize + 2) * depth as usize
-}
-
-// One less, and 0 for 0.
-fn above(depth: u16) -> u16
-    ensures { result ≡ depth - 1 }
-{
-    if depth == 0 {
-        return 0;
-    }
-    depth - 1
-}
-
-fn waiting_length(d: u16, depth: u16, countdown: u16) -> usize
-    ensures exact { result ≡ countdown + 2 + (d + 2) * (depth - 1) }
-    ensures few { result < 17179869184 }
-{
-    countdown as usize + 2 + way_up(d, above(depth))
-}
-
-// The steps that a unit of this depth can still cause.
-fn unit_length(d: u16, depth: u16, x: UnitRecord) -> usize
-    ensures exact { result ≡ unit_length d depth x x.state }
-    ensures few { result < 17179869184 }
-{
-    let state = x.state;
-    match state {
-        State::Idle => 0,
-        State::Active => 0,
-        State::Waiting => waiting_length(d, depth, x.countdown),
-    }
-}
-
-// The steps that a slot can still cause, whose receiver has this depth.
-fn slot_length(d: u16, depth: u16, kind: Kind) -> usize
-    ensures exact { result ≡ slot_length d depth kind }
-    ensures few { result < 17179869184 }
-{
-    match kind {
-        Kind::Empty => 0,
-        Kind::Work => 0,
-        Kind::Return => 1 + way_up(d, depth),
-        Kind::Request => 0,
-        Kind::Supply => 0,
-    }
-}
-
-fn units_length(d: u16, depths: [u16; 64], units: [UnitRecord; 64]) -> usize
-    ensures exact { result ≡ sum_of (λ i x. unit_length d (get_or depths i 0) x x.state) units }
-    ensures few { result ≤ 64 * 17179869184 }
-{
-    let mut sum: usize = 0;
-    for i in 0..64 {
-        sum += unit_length(d, depths[i], units[i]);
-    }
-    sum
-}
-
-fn slots_length(d: u16, depths: [u16; 64], slots: [Slot; 256]) -> usize
-    requires { (j : ℕ) → (get_or slots j blank_slot).to < 64 }
-    ensures exact { result ≡ sum_of (λ j y. slot_length d (get_or depths y.to 0) y.kind) slots }
-    ensures few { result ≤ 256 * 17179869184 }
-{
-    let mut sum: usize = 0;
-    for j in 0..256 {
-        let y = slots[j];
-        let to = y.to as usize;
-        let kind = y.kind;
-        sum += slot_length(d, depths[to], kind);
-    }
-    sum
-}
-
 // O(n + M): a depth for each unit, then a number for each unit and slot.
-pub(crate) fn length_of(b: Board) -> usize
-    requires { Sound b }
-    ensures { result ≡ longest_length (view b) }
+pub(crate) fn length_of(b: &Board) -> usize
+    requires { Sound b.now }
+    ensures { result ≡ longest_length (view b.now) }
 {
-    let d = b.delay;
-    let parents = b.parents;
-    let depths = depth_table(parents);
-    let units = b.units;
-    let slots = b.slots;
-    units_length(d, depths, units) + slots_length(d, depths, slots)
+    let distances = Distances {
+        depths: depth_table(&b.parents),
+        delay: b.delay,
+    };
+    distances.sum(&b.units) + distances.sum(&b.slots)
 }

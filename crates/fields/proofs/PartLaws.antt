@@ -1,14 +1,18 @@
 -- Laws of the bytes up to a separator and past it, of the count of separators, and of the place of the next one, over any separator e.
-use mathlib.Core.Path.{◌≡◌, refl, ap}
+use mathlib.Core.Path.{◌≡◌, refl, sym, ap, ◌∙◌}
 use mathlib.Core.Bool.{Bool, true, false, cond}
 use mathlib.Core.List.{List, [], ◌∷◌, ◌++◌, append-nil}
 use Prim.Native.Nat.{ℕ, zero, suc, ◌+◌, ◌-◌, ◌≤◌, ◌<◌}
 use native.Mathlib.Nat.{add-suc, sub_self}
 use native.Mathlib.Omega.{arith}
-use lib.Dec.{eqb, leb}
+use lib.Dec.{eqb, leb, ltb}
 use lib.ListN.{length, take, drop, length-take, length-drop, drop_of_length-le}
 use lib.Seq.{drop-drop}
-use borrow.Author.Tests.{leb-true, eqb-true, eq-eqb, le-leb}
+use borrow.Author.Tests.{leb-true, ltb-false, eqb-true, eq-eqb, le-leb}
+use Rattle.std.specs.List.{position, position_or_len}
+use Rattle.std.specs.Option.{unwrap_or}
+use Rattle.std.specs.Prelude.{◌==◌, Option, Some, None}
+use Rattle.std.proofs.lemmas.List.Recursion.{is_position_or_len}
 use Rattle.fields.specs.Fields.{up_to, past, count_of, end_from}
 use Rattle.fields.proofs.Cases.{by_bool, by_cond}
 
@@ -105,6 +109,17 @@ unfolding up_to past count_of
 parted e [] h = absurd (omega arith)
 parted e (c ∷ l) h =
     by_bool (λ t. 0 < cond t (suc (count_of e l)) (count_of e l) → cond t [] (c ∷ up_to e l) ++ e ∷ cond t l (past e l) ≡ c ∷ l) (eqb c e) (λ q s. rw (eqb-true c e q)) (λ q s. rw (parted e l s)) h
+
+-- as many bytes stand before the first separator as its place says
+up_to_position : (e : ℕ) (l : List ℕ) → length (up_to e l) ≡ position_or_len (λ c. c == e) l
+unfolding up_to
+up_to_position e = is_position_or_len (λ l. length (up_to e l)) (λ c. c == e) refl (λ c l. by_bool (λ t. length (cond t [] (c ∷ up_to e l)) ≡ cond t 0 (1 + length (up_to e l))) (eqb c e) (λ q. refl) (λ q. omega arith))
+
+pub position_before : (e : ℕ) (l : List ℕ) {r : Option ℕ} → r ≡ position (λ c. c == e) l → unwrap_or r (length l) ≡ length (up_to e l)
+position_before e l {r} is =
+    let n : ℕ = position_or_len (λ c. c == e) l in
+    ap (λ (o : Option ℕ). unwrap_or o (length l)) is
+    ∙ by_bool (λ t. unwrap_or (cond t (Some n) None) (length l) ≡ length (up_to e l)) (ltb n (length l)) (λ q. sym (up_to_position e l)) (λ q. omega (arith, ltb-false n (length l) q, up_to_position e l, up_to_at_most e l))
 
 -- ---- the place of the next separator
 

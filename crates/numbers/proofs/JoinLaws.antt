@@ -8,15 +8,16 @@ use native.Mathlib.Omega.{arith}
 use borrow.Author.Tests.{leb-true, ne_eqb, le-leb, eqb-false}
 use lib.Dec.{leb, eqb}
 use lib.ListN.{length, drop, length-append, get_or}
+use Rattle.std.specs.Prelude.{None}
 use Rattle.decimal.specs.Reading.{is_digit, all_digits, value_from, is_number}
 use Rattle.decimal.specs.Spelling.{spelled}
 use Rattle.decimal.proofs.CountLaws.{count_word}
 use Rattle.decimal.proofs.SpellLaws.{spelled_digits, spelled_length}
 use Rattle.decimal.proofs.RoundTrip.{value_spelled, spelled_number, first_digit, spelled_value, spelled_lead}
 use Rattle.fields.specs.Fields.{tab, count_of, up_to, past}
-use Rattle.fields.proofs.PartLaws.{up_to_whole, up_to_joined, past_joined, count_joined, count_past, parted}
+use Rattle.fields.proofs.PartLaws.{up_to_whole, count_past, parted}
 use Rattle.numbers.specs.Numbers.{fields_of, all_numbers, no_leading_zeros, values, refusal_of, tabbed, has_leading_zero}
-use Rattle.numbers.proofs.PlaceLaws.{fields_past_end, fields_on, fields_split}
+use Rattle.numbers.proofs.PlaceLaws.{fields_on, fields_split, fields_alone, fields_joined}
 use Rattle.numbers.proofs.NumberLaws.{fine_cons, fine_parts, number_some}
 use Rattle.fields.proofs.Cases.{by_test, by_bool}
 
@@ -66,16 +67,6 @@ digits_none (c ∷ cs) e =
 spelled_none : (n : ℕ) → n ≤ 65535 → count_of tab (spelled n) ≡ 0
 spelled_none n h = digits_none (spelled n) (spelled_digits n (omega arith))
 
--- ---- the fields of w, a text without a tab, alone and with more behind a tab
-module _ (w : List ℕ) (none : count_of tab w ≡ 0) where
-  fields_alone : fields_of w ≡ w ∷ []
-  fields_alone = rw (fields_split w, up_to_whole tab w none, fields_past_end (suc (length w)) w (omega arith))
-
-  fields_joined : (r : List ℕ) → fields_of (w ++ tab ∷ r) ≡ w ∷ fields_of r
-  fields_joined r =
-      let l : List ℕ = w ++ tab ∷ r in
-      rw (fields_split l, fields_on l (omega (arith, count_joined tab w none r)), past_joined tab w none r, up_to_joined tab w none r)
-
 -- w with numbers behind it
 pub fields_tabbed : (w ns : List ℕ) → count_of tab w ≡ 0 → Small ns → fields_of (w ++ tabbed ns) ≡ w ∷ map spelled ns
 unfolding tabbed
@@ -83,7 +74,7 @@ fields_tabbed w [] e h = ap fields_of (append-nil w) ∙ fields_alone w e
 fields_tabbed w (n ∷ ns) e h = fields_joined w e (spelled n ++ tabbed ns) ∙ ap (λ (fs : List (List ℕ)). w ∷ fs) (fields_tabbed (spelled n) ns (spelled_none n h.0) h.1)
 
 -- ---- read back
-pub fine_tabbed : (ns : List ℕ) → Small ns → refusal_of (map spelled ns) ≡ 0
+pub fine_tabbed : (ns : List ℕ) → Small ns → refusal_of (map spelled ns) ≡ None
 unfolding no_leading_zeros all_numbers
 fine_tabbed [] h = refl
 fine_tabbed (n ∷ ns) h = fine_cons (spelled n) (map spelled ns) (plain_spelled n) (spelled_number n h.0) (fine_tabbed ns h.1)
@@ -94,7 +85,7 @@ values_tabbed [] h = refl
 values_tabbed (n ∷ ns) h = rw (value_spelled n (omega (arith, h.0)), values_tabbed ns h.1)
 
 -- ---- the other way: the values of fields that nothing refuses, and the line that these are written in
-pub values_small : (fs : List (List ℕ)) → refusal_of fs ≡ 0 → Small (values fs)
+pub values_small : (fs : List (List ℕ)) → refusal_of fs ≡ None → Small (values fs)
 unfolding values
 values_small [] e = tt
 values_small (f ∷ fs) e = let parts = fine_parts f fs e in (number_small f parts.1, values_small fs parts.2)
@@ -102,7 +93,7 @@ values_small (f ∷ fs) e = let parts = fine_parts f fs e in (number_small f par
 fields_first : (l : List ℕ) → fields_of l ≡ up_to tab l ∷ drop 1 (fields_of l)
 fields_first l = fields_split l ∙ ap (λ (fs : List (List ℕ)). up_to tab l ∷ drop 1 fs) (sym (fields_split l))
 
-pub line_tabbed : (n : ℕ) (l : List ℕ) → count_of tab l ≡ n → refusal_of (drop 1 (fields_of l)) ≡ 0 → up_to tab l ++ tabbed (values (drop 1 (fields_of l))) ≡ l
+pub line_tabbed : (n : ℕ) (l : List ℕ) → count_of tab l ≡ n → refusal_of (drop 1 (fields_of l)) ≡ None → up_to tab l ++ tabbed (values (drop 1 (fields_of l))) ≡ l
 unfolding tabbed values
 line_tabbed zero l q e = rw (fields_alone l q, append-nil) (up_to_whole tab l q)
 line_tabbed (suc n) l q e =

@@ -1,17 +1,20 @@
 -- Fields as numbers: whether all are, what holds where nothing refuses them, their values, and their values padded with zeros.
 use mathlib.Core.Path.{◌≡◌, refl, sym, ap, ◌∙◌}
 use mathlib.Core.Bool.{Bool, true, false, not, cond, ◌&&◌, and-eq-true_iff}
-use mathlib.Core.List.{List, [], ◌∷◌, ◌++◌}
+use mathlib.Core.List.{List, [], ◌∷◌}
 use Prim.Native.Nat.{ℕ, zero, suc, ◌*◌, ◌≤◌, ◌<◌}
 use native.Mathlib.Omega.{arith}
 use lib.Dec.{leb}
 use lib.ListN.{length, take, drop, get_or, replicate, length-append, length-drop}
-use borrow.Author.Tests.{leb-true, leb-false, eq-eqb, not-true}
+use borrow.Author.Tests.{leb-true, leb-false, not-true}
+use Rattle.std.specs.Prelude.{Option, Some, None, Ok, Err}
+use Rattle.refusals.specs.declared.Refusal.{Refusal}
+use Rattle.refusals.specs.declared.Refusal.TheVariants.{NoNumber, PaddedNumber}
 use Rattle.decimal.specs.Reading.{is_number, all_digits, value_from}
 use Rattle.fields.specs.Fields.{tab, up_to, past, count_of, field_count}
 use Rattle.fields.proofs.Cases.{by_test}
 use Rattle.fields.proofs.PartLaws.{up_to_at_most, parted, count_past}
-use Rattle.numbers.specs.Numbers.{fields_of, fields_at, all_numbers, has_leading_zero, no_leading_zeros, values, padded, room, refusal_of, numbers_of}
+use Rattle.numbers.specs.Numbers.{fields_of, fields_at, all_numbers, has_leading_zero, no_leading_zeros, values, padded, room, refusal_of, unless, numbers_of}
 use Rattle.numbers.proofs.PlaceLaws.{fields_inside, fields_past_end, fields_on, fields_split, fields_count}
 
 -- ---- numbers
@@ -23,27 +26,38 @@ unfolding all_numbers
 numbers_both f fs e = (and-eq-true_iff (is_number f) (all_numbers fs)).0 e
 
 -- ---- fields that nothing refuses
-fine_both : (fs : List (List ℕ)) → refusal_of fs ≡ 0 → (no_leading_zeros fs ≡ true) × (all_numbers fs ≡ true)
+fine_both : (fs : List (List ℕ)) → refusal_of fs ≡ None → (no_leading_zeros fs ≡ true) × (all_numbers fs ≡ true)
 fine_both fs e = by_tests (no_leading_zeros fs) (all_numbers fs) e
   where
-    by_tests : (s t : Bool) → ◌≡◌ {A = ℕ} (cond s (cond t 0 24) 28) 0 → (s ≡ true) × (t ≡ true)
+    by_tests : (s t : Bool) → cond s (cond t None (Some NoNumber)) (Some PaddedNumber) ≡ None → (s ≡ true) × (t ≡ true)
     by_tests true true q = (refl, refl)
-    by_tests true false q = absurd (omega (arith, q))
-    by_tests false t q = absurd (omega (arith, q))
+    by_tests true false q = absurd cc
+    by_tests false t q = absurd cc
 
-pub numbers_all : (fs : List (List ℕ)) → refusal_of fs ≡ 0 → all_numbers fs ≡ true
+pub numbers_all : (fs : List (List ℕ)) → refusal_of fs ≡ None → all_numbers fs ≡ true
 numbers_all fs e = (fine_both fs e).1
 
--- they have their values
-pub numbers_list : (fs : List (List ℕ)) → refusal_of fs ≡ 0 → (numbers_of fs).list ≡ padded room (values fs)
-numbers_list fs e = ap (λ (t : Bool). padded room (cond t (values fs) [])) (eq-eqb (refusal_of fs) 0 e)
+-- they have their values, and others their refusal
+pub numbers_given : (fs : List (List ℕ)) {vs : List ℕ} → (numbers_of fs).values ≡ Ok vs → (refusal_of fs ≡ None) × (vs ≡ padded room (values fs))
+numbers_given fs e = by_refusal (refusal_of fs) e
+  where
+    by_refusal : (o : Option Refusal) {vs : List ℕ} → unless o (padded room (values fs)) ≡ Ok vs → (o ≡ None) × (vs ≡ padded room (values fs))
+    by_refusal None q = (refl, cc)
+    by_refusal (Some k) q = absurd cc
+
+pub numbers_refused : (fs : List (List ℕ)) {k : Refusal} → (numbers_of fs).values ≡ Err k → refusal_of fs ≡ Some k
+numbers_refused fs e = by_refusal (refusal_of fs) e
+  where
+    by_refusal : (o : Option Refusal) {k : Refusal} → unless o (padded room (values fs)) ≡ Err k → o ≡ Some k
+    by_refusal None q = absurd cc
+    by_refusal (Some j) q = cc
 
 -- the first of them is a number without a leading zero, and nothing refuses those behind it
-pub fine_cons : (f : List ℕ) (fs : List (List ℕ)) → has_leading_zero f ≡ false → is_number f ≡ true → refusal_of fs ≡ 0 → refusal_of (f ∷ fs) ≡ 0
+pub fine_cons : (f : List ℕ) (fs : List (List ℕ)) → has_leading_zero f ≡ false → is_number f ≡ true → refusal_of fs ≡ None → refusal_of (f ∷ fs) ≡ None
 unfolding no_leading_zeros all_numbers
 fine_cons f fs z n e = let both = fine_both fs e in rw (z, n, both.0, both.1)
 
-pub fine_parts : (f : List ℕ) (fs : List (List ℕ)) → refusal_of (f ∷ fs) ≡ 0 → (has_leading_zero f ≡ false) × (is_number f ≡ true) × (refusal_of fs ≡ 0)
+pub fine_parts : (f : List ℕ) (fs : List (List ℕ)) → refusal_of (f ∷ fs) ≡ None → (has_leading_zero f ≡ false) × (is_number f ≡ true) × (refusal_of fs ≡ None)
 unfolding no_leading_zeros
 fine_parts f fs e =
     let both = fine_both (f ∷ fs) e in
@@ -51,7 +65,7 @@ fine_parts f fs e =
     let numbers = numbers_both f fs both.1 in
     (not-true (has_leading_zero f) zeros.0, numbers.0, rw (zeros.1, numbers.1))
 
-pub fine_drop : (n : ℕ) (fs : List (List ℕ)) → refusal_of fs ≡ 0 → refusal_of (drop n fs) ≡ 0
+pub fine_drop : (n : ℕ) (fs : List (List ℕ)) → refusal_of fs ≡ None → refusal_of (drop n fs) ≡ None
 fine_drop zero fs e = e
 fine_drop (suc n) [] e = e
 fine_drop (suc n) (f ∷ fs) e = fine_drop n fs (fine_parts f fs e).2
@@ -87,13 +101,6 @@ unfolding padded
 padded_take n [] h = refl
 padded_take zero (v ∷ vs) h = absurd (omega arith)
 padded_take (suc n) (v ∷ vs) h = ap (λ (ws : List ℕ). v ∷ ws) (padded_take n vs (omega arith))
-
--- the values stored one by one into zeros
-pub padded_stored : (n : ℕ) (vs : List ℕ) → padded n vs ≡ take n vs ++ drop (length (take n vs)) (replicate n 0)
-unfolding padded
-padded_stored zero vs = refl
-padded_stored (suc n) [] = ap (λ (ws : List ℕ). 0 ∷ ws) (padded_none n)
-padded_stored (suc n) (v ∷ vs) = ap (λ (ws : List ℕ). v ∷ ws) (padded_stored n vs)
 
 -- ---- a line has two bytes for each number, but for the last one's tab
 first_some : (l : List ℕ) → all_numbers (fields_of l) ≡ true → 1 ≤ length (up_to tab l)

@@ -1,158 +1,132 @@
--- One pass over the number fields of a line: what is found so far and what is left from here on are the numbers of the whole.
+-- One pass over the number fields of a line: what is found of the fields so far are the numbers of these.
 use mathlib.Core.Path.{◌≡◌, refl, sym, ap, ◌∙◌}
-use mathlib.Core.Bool.{Bool, true, false, not, cond, ◌&&◌, ◌||◌}
+use mathlib.Core.Bool.{Bool, true, false, not, cond, ◌&&◌, ◌||◌, and-true, and-false}
 use mathlib.Core.List.{List, [], ◌∷◌, ◌++◌}
 use Prim.Native.Nat.{ℕ, zero, suc, ◌+◌, ◌-◌, ◌≤◌, ◌<◌}
-use native.Mathlib.Nat.{zero-add}
-use native.Mathlib.Numerals.{add-one}
 use native.Mathlib.Omega.{arith}
-use borrow.Author.Tests.{eq-eqb, ne_eqb}
-use lib.ListN.{length, take, drop, set, replicate, length-take, length-replicate}
-use lib.Seq.{sets, sets-eq}
-use lib.Dec.{eqb}
+use lib.ListN.{length, drop, set, replicate, length-append, length-drop}
+use Rattle.std.specs.Prelude.{Option, Some, None, Ok, Err}
+use Rattle.refusals.specs.declared.Refusal.{Refusal}
+use Rattle.refusals.specs.declared.Refusal.TheVariants.{NoNumber, PaddedNumber}
 use Rattle.decimal.specs.Reading.{is_number, value_from, number_of}
-use Rattle.decimal.specs.declared.Number.{Number}
-use Rattle.decimal.specs.declared.Number.TheVariants.{Value, Refused}
-use Rattle.fields.specs.Fields.{tab, end_from}
 use Rattle.fields.proofs.Cases.{by_bool}
-use Rattle.fields.proofs.PartLaws.{end_after}
-use Rattle.numbers.specs.Numbers.{fields_at, all_numbers, has_leading_zero, no_leading_zeros, values, padded, room, refusal_of, numbers_at}
-use Rattle.numbers.specs.Passes.{value_of, refusal_with, leading_with, line_refusal}
-use Rattle.numbers.proofs.PlaceLaws.{fields_turn, fields_past_end}
-use Rattle.numbers.proofs.NumberLaws.{numbers_both, numbers_all, padded_none, padded_stored}
+use Rattle.numbers.specs.Numbers.{all_numbers, has_leading_zero, no_leading_zeros, values, padded, room, refusal_of, unless, fields_of, numbers_of, numbers_at}
+use Rattle.std.specs.List.{slice_range}
+use lib.Seq.{take_all}
+use Rattle.numbers.specs.declared.Numbers.{Numbers}
+use Rattle.numbers.proofs.PlaceLaws.{fields_inside, fields_past_end}
+use Rattle.numbers.proofs.NumberLaws.{values_length, padded_none}
 
--- ---- the value of each field, and 0 for one that is no number
-unfoldable pub field_values : List (List ℕ) → List ℕ
-field_values [] = []
-field_values (f ∷ fs) = value_of (number_of f) ∷ field_values fs
+-- ---- n entries, with one more value
+padded_more : (n : ℕ) (vs : List ℕ) (v : ℕ) → length vs < n → padded n (vs ++ v ∷ []) ≡ set (padded n vs) (length vs) v
+unfolding padded
+padded_more zero vs v h = absurd (omega arith)
+padded_more (suc n) [] v h = refl
+padded_more (suc n) (w ∷ vs) v h = ap (λ (ws : List ℕ). w ∷ ws) (padded_more n vs v (omega arith))
 
-entry_number : (f : List ℕ) → is_number f ≡ true → value_of (number_of f) ≡ value_from 0 f
-unfolding number_of
-entry_number f e = rw e
+padded_full : (n : ℕ) (vs : List ℕ) (v : ℕ) → n ≤ length vs → padded n (vs ++ v ∷ []) ≡ padded n vs
+unfolding padded
+padded_full zero vs v h = refl
+padded_full (suc n) [] v h = absurd (omega arith)
+padded_full (suc n) (w ∷ vs) v h = ap (λ (ws : List ℕ). w ∷ ws) (padded_full n vs v (omega arith))
 
-entries_numbers : (fs : List (List ℕ)) → all_numbers fs ≡ true → field_values fs ≡ values fs
-unfolding field_values values
-entries_numbers [] e = refl
-entries_numbers (f ∷ fs) e = let both = numbers_both f fs e in rw (entry_number f both.0, entries_numbers fs both.1)
+-- ---- the fields so far, with one more
+module _ (f : List ℕ) where
+  zeros_more : (fs : List (List ℕ)) → no_leading_zeros (fs ++ f ∷ []) ≡ no_leading_zeros fs && not (has_leading_zero f)
+  unfolding no_leading_zeros
+  zeros_more [] = by_bool (λ t. t && true ≡ t) (not (has_leading_zero f)) (λ q. refl) (λ q. refl)
+  zeros_more (g ∷ fs) = rw (zeros_more fs) (by_bool (λ t. t && (no_leading_zeros fs && not (has_leading_zero f)) ≡ (t && no_leading_zeros fs) && not (has_leading_zero f)) (not (has_leading_zero g)) (λ q. refl) (λ q. refl))
 
--- the number reader's refusal of a line whose fields before fs gave r
-abbrev pub refusal_after : ℕ → List (List ℕ) → ℕ
-refusal_after r fs = cond (all_numbers fs) r 24
+  numbers_more : (fs : List (List ℕ)) → all_numbers (fs ++ f ∷ []) ≡ all_numbers fs && is_number f
+  unfolding all_numbers
+  numbers_more [] = by_bool (λ t. t && true ≡ t) (is_number f) (λ q. refl) (λ q. refl)
+  numbers_more (g ∷ fs) = rw (numbers_more fs) (by_bool (λ t. t && (all_numbers fs && is_number f) ≡ (t && all_numbers fs) && is_number f) (is_number g) (λ q. refl) (λ q. refl))
 
-after_next : (r : ℕ) (f : List ℕ) (fs : List (List ℕ)) → refusal_after (refusal_with r (number_of f)) fs ≡ refusal_after r (f ∷ fs)
-unfolding all_numbers number_of
-after_next r f fs = by_tests (is_number f) (all_numbers fs) (value_from 0 f)
-  where
-    by_tests : (t s : Bool) (v : ℕ) → cond s (refusal_with r (cond t (Value v) (Refused 24))) 24 ≡ cond (t && s) r 24
-    by_tests true s v = refl
-    by_tests false true v = refl
-    by_tests false false v = refl
+  values_more : (fs : List (List ℕ)) → values (fs ++ f ∷ []) ≡ values fs ++ value_from 0 f ∷ []
+  unfolding values
+  values_more [] = refl
+  values_more (g ∷ fs) = ap (λ (vs : List ℕ). value_from 0 g ∷ vs) (values_more fs)
 
--- whether no field has a leading zero, where t says that one before fs has
-abbrev pub plain_after : Bool → List (List ℕ) → Bool
-plain_after t fs = not t && no_leading_zeros fs
+-- ---- at the head of each turn: what is found of the fields so far
+pub record Pass (fs : List (List ℕ)) (list : List ℕ) (count : ℕ) (leading : Bool) (refusal : Option Refusal) : Type 0 where
+  pub counted : count ≡ length fs
+  pub plain : not leading ≡ no_leading_zeros fs
+  pub refused : refusal ≡ cond (all_numbers fs) None (Some NoNumber)
+  pub stored : refusal ≡ None → list ≡ padded room (values fs)
 
-plain_next : (t : Bool) (f : List ℕ) (fs : List (List ℕ)) → plain_after (leading_with t f) fs ≡ plain_after t (f ∷ fs)
-unfolding no_leading_zeros
-plain_next t f fs = by_tests (has_leading_zero f) t (no_leading_zeros fs)
-  where
-    by_tests : (z s p : Bool) → not (z || s) && p ≡ not s && (not z && p)
-    by_tests true true p = refl
-    by_tests true false p = refl
-    by_tests false true p = refl
-    by_tests false false p = refl
+pub pass_begins : Pass [] (replicate room 0) 0 false None
+unfolding no_leading_zeros all_numbers values
+pass_begins = record { counted = refl; plain = refl; refused = refl; stored = λ _. sym (padded_none room) }
 
--- ---- at the head of each turn
-pub record Pass (l : List ℕ) (from : ℕ) (list : List ℕ) (count refusal : ℕ) (leading : Bool) (at : ℕ) : Type 0 where
-  pub few : count ≤ at
-  pub counted : count + length (fields_at at l) ≡ length (fields_at from l)
-  pub refused : refusal_after refusal (fields_at at l) ≡ refusal_after 0 (fields_at from l)
-  pub plain : plain_after leading (fields_at at l) ≡ no_leading_zeros (fields_at from l)
-  pub stored : sets list count (take (room - count) (field_values (fields_at at l))) ≡ padded room (field_values (fields_at from l))
+-- ---- one turn, which leaves one field more behind it
+module _ {fs : List (List ℕ)} {list : List ℕ} {count : ℕ} {leading : Bool} {refusal : Option Refusal} (p : Pass fs list count leading refusal) (f : List ℕ) {gs : List (List ℕ)} (more : gs ≡ fs ++ f ∷ []) {z : Bool} (led : z ≡ leading || has_leading_zero f) where
+  longer : count + 1 ≡ length gs
+  longer = omega (arith, p.counted, length-append fs (f ∷ []), ap length more)
 
--- values stored from the front into zeros
-blank_stored : (vs : List ℕ) → sets (replicate room 0) 0 (take room vs) ≡ padded room vs
-blank_stored vs = sets-eq (take room vs) (replicate room 0) 0 (omega (arith, length-take room vs, length-replicate {A = ℕ} room 0)) ∙ ap (λ (k : ℕ). take room vs ++ drop k (replicate room 0)) (zero-add (length (take room vs))) ∙ sym (padded_stored room vs)
+  plainer : not z ≡ no_leading_zeros gs
+  plainer =
+      ap not led
+      ∙ by_bool (λ t. not (t || has_leading_zero f) ≡ not t && not (has_leading_zero f)) leading (λ q. refl) (λ q. refl)
+      ∙ ap (λ (t : Bool). t && not (has_leading_zero f)) p.plain
+      ∙ sym (zeros_more f fs)
+      ∙ ap no_leading_zeros (sym more)
 
-pub pass_begins : (l : List ℕ) (from : ℕ) → Pass l from (replicate room 0) 0 0 false from
-pass_begins l from = record {
-  few = omega arith;
-  counted = omega arith;
-  refused = refl;
-  plain = refl;
-  stored = blank_stored (field_values (fields_at from l));
-}
+  numbers_now : all_numbers gs ≡ all_numbers fs && is_number f
+  numbers_now = ap all_numbers more ∙ numbers_more f fs
 
--- ---- one turn: the field that starts at a place, and the place behind its tab
-module _ {l : List ℕ} {from : ℕ} {list : List ℕ} {count refusal : ℕ} {leading : Bool} {at : ℕ} (p : Pass l from list count refusal leading at) (inside : at ≤ length l) {end : ℕ} (t : end ≡ end_from tab at l) {n : Number} (is : n ≡ number_of (take (end - at) (drop at l))) {r : ℕ} (with : r ≡ refusal_with refusal n) {z : Bool} (led : z ≡ leading_with leading (take (end - at) (drop at l))) where
-  abbrev field : List ℕ
-  field = take (end - at) (drop at l)
+  module _ {v : ℕ} (read : number_of f ≡ Ok v) {o : Option Refusal} (kept : o ≡ refusal) where
+    good : (is_number f ≡ true) × (v ≡ value_from 0 f)
+    unfolding number_of
+    good = by_bool (λ t. cond t (Ok (value_from 0 f)) (Err NoNumber) ≡ Ok v → (t ≡ true) × (v ≡ value_from 0 f)) (is_number f) (λ q e. (refl, cc)) (λ q e. absurd cc) read
 
-  abbrev rest : List (List ℕ)
-  rest = fields_at (end + 1) l
+    goes : (next : List ℕ) → (list ≡ padded room (values fs) → next ≡ padded room (values fs ++ v ∷ [])) → Pass gs next (count + 1) z o
+    goes next e = record {
+      counted = longer;
+      plain = plainer;
+      refused = kept ∙ p.refused ∙ ap (λ (t : Bool). cond t None (Some NoNumber)) (sym (numbers_now ∙ rw good.0 (and-true (all_numbers fs))));
+      stored = λ none. e (p.stored (sym kept ∙ none)) ∙ rw (more, good.1, values_more f fs);
+    }
 
-  turn : fields_at at l ≡ field ∷ rest
-  turn = fields_turn at l inside t
+    pub pass_stores : count < room → {next : List ℕ} → next ≡ set list count v → Pass gs next (count + 1) z o
+    pass_stores h {next} s = goes next (λ l. s ∙ rw (l, p.counted, ← values_length fs) (sym (padded_more room (values fs) v (omega (arith, h, p.counted, values_length fs)))))
 
-  goes : (next : List ℕ) → sets next (count + 1) (take (room - (count + 1)) (field_values rest)) ≡ sets list count (take (room - count) (field_values (field ∷ rest))) → Pass l from next (count + 1) r z (end + 1)
-  goes next e = record {
-    few = omega (arith, p.few, t, end_after tab at l inside);
-    counted = omega (arith, p.counted, ap length turn);
-    refused = ap (λ (k : ℕ). refusal_after k rest) (with ∙ ap (refusal_with refusal) is) ∙ after_next refusal field rest ∙ ap (refusal_after refusal) (sym turn) ∙ p.refused;
-    plain = ap (λ (b : Bool). plain_after b rest) led ∙ plain_next leading field rest ∙ ap (plain_after leading) (sym turn) ∙ p.plain;
-    stored = e ∙ ap (λ (fs : List (List ℕ)). sets list count (take (room - count) (field_values fs))) (sym turn) ∙ p.stored;
+    -- more fields than there is room for
+    pub pass_skips : room ≤ count → {next : List ℕ} → next ≡ list → Pass gs next (count + 1) z o
+    pass_skips h {next} s = goes next (λ l. s ∙ l ∙ sym (padded_full room (values fs) v (omega (arith, h, p.counted, values_length fs))))
+
+  pub pass_refuses : {k : Refusal} → number_of f ≡ Err k → {next : List ℕ} {o : Option Refusal} → o ≡ Some k → Pass gs next (count + 1) z o
+  unfolding number_of
+  pass_refuses {k} read {next} {o} told = record {
+    counted = longer;
+    plain = plainer;
+    refused = told
+        ∙ by_bool (λ t. cond t (Ok (value_from 0 f)) (Err NoNumber) ≡ Err k → Some k ≡ cond (all_numbers fs && t) None (Some NoNumber)) (is_number f) (λ q e. absurd cc) (λ q e. rw and-false cc) read
+        ∙ ap (λ (t : Bool). cond t None (Some NoNumber)) (sym numbers_now);
+    stored = λ none. absurd cc;
   }
 
-  pub pass_stores : count < room → {v : ℕ} → v ≡ value_of n → {next : List ℕ} → next ≡ set list count v → Pass l from next (count + 1) r z (end + 1)
-  unfolding field_values
-  pass_stores h {v} e {next} s =
-      let more : room - count ≡ suc (room - suc count) = omega arith in
-      goes next (rw (add-one count, more, s, e, is))
+-- ---- at the end: a padded number refuses before one that is none
+module _ {fs : List (List ℕ)} {list : List ℕ} {count : ℕ} {leading : Bool} {refusal : Option Refusal} (p : Pass fs list count leading refusal) {gs : List (List ℕ)} (all : fs ≡ gs) where
+  all_refused : cond leading (Some PaddedNumber) refusal ≡ refusal_of fs
+  all_refused = by_bool (λ t. cond t (Some PaddedNumber) refusal ≡ cond (not t) refusal (Some PaddedNumber)) leading (λ q. refl) (λ q. refl) ∙ rw (p.plain, p.refused)
 
-  -- more fields than there is room for
-  pub pass_skips : room ≤ count → {next : List ℕ} → next ≡ list → Pass l from next (count + 1) r z (end + 1)
-  pass_skips h {next} s =
-      let none : room - count ≡ 0 = omega arith in
-      let still : room - (count + 1) ≡ 0 = omega arith in
-      goes next (rw (none, still, s))
+  numbers_are : (o : Option Refusal) → cond leading (Some PaddedNumber) refusal ≡ o → record { count = count; values = unless o (padded room (values fs)) } ≡ numbers_of gs
+  numbers_are o e = rw (p.counted, ← e, all_refused, all)
 
--- ---- past the line's end nothing is left
-module _ {l : List ℕ} {from : ℕ} {list : List ℕ} {count refusal : ℕ} {leading : Bool} {at : ℕ} (p : Pass l from list count refusal leading at) (done : length l < at) {r : ℕ} (is : r ≡ line_refusal leading refusal) where
-  none : fields_at at l ≡ []
-  none = fields_past_end at l done
+  pub ends_padded : leading ≡ true → record { count = count; values = Err PaddedNumber } ≡ numbers_of gs
+  ends_padded e = numbers_are (Some PaddedNumber) (rw e)
 
-  all_counted : count ≡ length (fields_at from l)
-  all_counted = omega (arith, p.counted, ap length none)
+  pub ends_bad : leading ≡ false → {k : Refusal} → refusal ≡ Some k → record { count = count; values = Err k } ≡ numbers_of gs
+  ends_bad e {k} o = numbers_are (Some k) (rw (e, o))
 
-  no_number : refusal ≡ refusal_after 0 (fields_at from l)
-  unfolding all_numbers
-  no_number = ap (refusal_after refusal) (sym none) ∙ p.refused
+  pub ends_good : leading ≡ false → refusal ≡ None → record { count = count; values = Ok list } ≡ numbers_of gs
+  ends_good e o = ap (λ (vs : List ℕ). record { count = count; values = Ok vs }) (p.stored o) ∙ numbers_are None (rw (e, o))
 
-  no_zero : not leading && true ≡ no_leading_zeros (fields_at from l)
-  unfolding no_leading_zeros
-  no_zero = ap (plain_after leading) (sym none) ∙ p.plain
+-- ---- the fields from a place on
+pub numbers_inside : (at : ℕ) (l m : List ℕ) (n : Numbers) → n ≡ numbers_of (fields_of m) → m ≡ slice_range l at (length l) → at ≤ length l → n ≡ numbers_at at l
+unfolding numbers_at
+numbers_inside at l m n is e h = is ∙ ap numbers_of (ap fields_of (e ∙ take_all (length l - at) (drop at l) (omega (arith, length-drop at l))) ∙ sym (fields_inside at l h))
 
-  all_refused : r ≡ refusal_of (fields_at from l)
-  all_refused =
-      is ∙ by_bool (λ t. line_refusal t refusal ≡ cond (not t && true) refusal 28) leading (λ e. refl) (λ e. refl)
-      ∙ ap (λ (t : Bool). cond t refusal 28) no_zero ∙ ap (λ (k : ℕ). cond (no_leading_zeros (fields_at from l)) k 28) no_number
-
-  all_stored : list ≡ padded room (field_values (fields_at from l))
-  unfolding field_values
-  all_stored = sym (take_none (room - count)) ∙ ap (λ (fs : List (List ℕ)). sets list count (take (room - count) (field_values fs))) (sym none) ∙ p.stored
-    where
-      take_none : (k : ℕ) → sets list count (take k []) ≡ list
-      take_none zero = refl
-      take_none (suc k) = refl
-
-  numbers_is : {vs : List ℕ} → vs ≡ padded room (cond (eqb (refusal_of (fields_at from l)) 0) (values (fields_at from l)) []) → record { count = count; refusal = r; list = vs } ≡ numbers_at from l
-  unfolding numbers_at
-  numbers_is e = rw (all_counted, all_refused, e)
-
-  pub pass_accepts : r ≤ 0 → record { count = count; refusal = r; list = list } ≡ numbers_at from l
-  pass_accepts h =
-      let zero_is : refusal_of (fields_at from l) ≡ 0 = omega (arith, h, all_refused) in
-      numbers_is (all_stored ∙ rw (eq-eqb (refusal_of (fields_at from l)) 0 zero_is) (ap (padded room) (entries_numbers (fields_at from l) (numbers_all (fields_at from l) zero_is))))
-
-  pub pass_refuses : 0 < r → record { count = count; refusal = r; list = replicate room 0 } ≡ numbers_at from l
-  pass_refuses h = numbers_is (sym (padded_none room) ∙ ap (λ (b : Bool). padded room (cond b (values (fields_at from l)) [])) (sym (ne_eqb (refusal_of (fields_at from l)) 0 (λ z. omega (arith, h, all_refused, z)))))
+pub numbers_past_end : (at : ℕ) (l : List ℕ) → length l < at → record { count = 0; values = Ok (replicate room 0) } ≡ numbers_at at l
+unfolding numbers_at
+numbers_past_end at l h = ends_good pass_begins (sym (fields_past_end at l h)) refl refl

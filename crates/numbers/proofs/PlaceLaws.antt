@@ -1,15 +1,17 @@
 -- The fields of a line from a place on: the first of them, and those behind it.
 use mathlib.Core.Path.{◌≡◌, refl, sym, ap, ◌∙◌}
-use mathlib.Core.List.{List, [], ◌∷◌}
+use mathlib.Core.List.{List, [], ◌∷◌, ◌++◌}
 use Prim.Native.Nat.{ℕ, zero, suc, ◌+◌, ◌-◌, ◌≤◌, ◌<◌}
 use native.Mathlib.Numerals.{add-one}
 use native.Mathlib.Omega.{arith}
-use lib.Dec.{leb}
+use lib.Dec.{leb, eqb}
 use lib.ListN.{length, take, drop, length-append, length-drop}
 use lib.Seq.{drop-drop}
-use borrow.Author.Tests.{le-leb, lt-leb, leb-true, leb-false}
+use borrow.Author.Tests.{le-leb, lt-leb, leb-true, leb-false, eqb-true}
+use Rattle.std.specs.Prelude.{◌==◌, cond}
+use Rattle.std.specs.List.{slice_split, onto_first}
 use Rattle.fields.specs.Fields.{tab, up_to, past, count_of, end_from, field_of, field_start, field_count}
-use Rattle.fields.proofs.PartLaws.{up_to_whole, past_drop, past_stands, parted, count_past, up_to_from, end_is}
+use Rattle.fields.proofs.PartLaws.{up_to_whole, up_to_joined, past_joined, count_joined, past_drop, past_stands, parted, count_past, up_to_from, end_is}
 use Rattle.fields.proofs.Cases.{by_bool}
 use Rattle.fields.proofs.FieldLaws.{start_at_most}
 use Rattle.numbers.specs.Numbers.{fields_from, fields_of, fields_at}
@@ -55,6 +57,28 @@ fields_behind (suc n) l e = fields_counted n (past tab l) (omega (arith, e, coun
 pub fields_split : (l : List ℕ) → fields_of l ≡ up_to tab l ∷ fields_at (suc (length (up_to tab l))) l
 unfolding fields_of fields_from field_count field_of
 fields_split l = ap (λ (fs : List (List ℕ)). up_to tab l ∷ fs) (fields_past (count_of tab l) 0 l ∙ fields_behind (count_of tab l) l refl)
+
+-- of w, a text without a tab, alone and with more behind a tab
+module _ (w : List ℕ) (none : count_of tab w ≡ 0) where
+  pub fields_alone : fields_of w ≡ w ∷ []
+  fields_alone = rw (fields_split w, up_to_whole tab w none, fields_past_end (suc (length w)) w (omega arith))
+
+  pub fields_joined : (r : List ℕ) → fields_of (w ++ tab ∷ r) ≡ w ∷ fields_of r
+  fields_joined r =
+      let l : List ℕ = w ++ tab ∷ r in
+      rw (fields_split l, fields_on l (omega (arith, count_joined tab w none r)), past_joined tab w none r, up_to_joined tab w none r)
+
+fields_behind_one : (c : ℕ) (l : List ℕ) → fields_at (suc (length (up_to tab l))) l ≡ fields_at (suc (suc (length (up_to tab l)))) (c ∷ l)
+fields_behind_one c l = fields_dropped 1 (suc (length (up_to tab l))) (c ∷ l) (omega arith) ∙ ap (λ (j : ℕ). fields_at j (c ∷ l)) (omega arith)
+
+-- the parts of a line that is cut at its tabs
+pub fields_cut : (l : List ℕ) → slice_split (λ c. c == tab) l ≡ fields_of l
+unfolding up_to count_of
+fields_cut [] = sym (fields_alone [] refl)
+fields_cut (c ∷ l) =
+    by_bool (λ t. cond t ([] ∷ slice_split (λ x. x == tab) l) (onto_first c (slice_split (λ x. x == tab) l)) ≡ fields_of (c ∷ l)) (eqb c tab)
+    (λ q. rw (eqb-true c tab q, fields_cut l) (sym (fields_joined [] refl l)))
+    (λ q. rw (fields_cut l, fields_split l, fields_split (c ∷ l), q) (ap (λ (fs : List (List ℕ)). (c ∷ up_to tab l) ∷ fs) (fields_behind_one c l)))
 
 -- there are as many as are counted
 fields_many : (n i : ℕ) (l : List ℕ) → length (fields_from n i l) ≡ n

@@ -1,5 +1,7 @@
 -- The number fields of a line: all of its fields, or those from a place on.
-use Rattle.std.specs.Prelude.{Bool, true, not, cond, ◌&&◌, List, [], ◌∷◌, ◌++◌, ℕ, zero, suc, length, drop, get_or, leb, eqb}
+use Rattle.std.specs.Prelude.{Bool, true, not, cond, ◌&&◌, Option, Some, None, Result, Ok, Err, List, [], ◌∷◌, ◌++◌, ℕ, zero, suc, length, drop, get_or, leb, eqb}
+use Rattle.refusals.specs.declared.Refusal.{Refusal}
+use Rattle.refusals.specs.declared.Refusal.TheVariants.{NoNumber, PaddedNumber}
 use Rattle.decimal.specs.Reading.{all_digits, is_number, value_from}
 use Rattle.decimal.specs.Spelling.{spelled}
 use Rattle.fields.specs.Fields.{tab, field_of, field_count}
@@ -35,26 +37,31 @@ unfoldable pub values : List (List ℕ) → List ℕ
 values [] = []
 values (f ∷ fs) = value_from 0 f ∷ values fs
 
--- what is asked of all fields together, and the number that refuses the line where it fails
+-- what is asked of all fields together, and what refuses the line where it fails
 pub record FieldCheck : Type 0 where
   pub passes : Bool
-  pub number : ℕ
+  pub refusal : Refusal
 
 -- 28 a padded number in any field (M-101), 24 a number field empty, with a byte that is no digit, or above 65,535. The first of the row
 -- that fails refuses the line, whichever of its fields is the first bad one
 abbrev pub field_checks : List (List ℕ) → List FieldCheck
 field_checks fs =
-    record { passes = no_leading_zeros fs; number = 28 }
-    ∷ record { passes = all_numbers fs; number = 24 }
+    record { passes = no_leading_zeros fs; refusal = PaddedNumber }
+    ∷ record { passes = all_numbers fs; refusal = NoNumber }
     ∷ []
 
--- the number of the first that fails, 0 where none does
-abbrev pub first_failed : List FieldCheck → ℕ
-first_failed [] = 0
-first_failed (c ∷ cs) = cond c.passes (first_failed cs) c.number
+-- the refusal of the first that fails, none where all pass
+abbrev pub first_failed : List FieldCheck → Option Refusal
+first_failed [] = None
+first_failed (c ∷ cs) = cond c.passes (first_failed cs) (Some c.refusal)
 
-abbrev pub refusal_of : List (List ℕ) → ℕ
+abbrev pub refusal_of : List (List ℕ) → Option Refusal
 refusal_of fs = first_failed (field_checks fs)
+
+-- x, where nothing refuses it
+abbrev pub unless : {A : Type 0} → Option Refusal → A → Result A Refusal
+unless None x = Ok x
+unless (Some k) x = Err k
 
 -- n entries: the values with zeros behind them, or the first n values
 unfoldable pub padded : ℕ → List ℕ → List ℕ
@@ -66,13 +73,9 @@ padded (suc n) (v ∷ vs) = v ∷ padded n vs
 abbrev pub room : ℕ
 room = 128
 
--- how many fields there are, the line's refusal, and the values; a refused line has none
+-- how many fields there are, and the values, or the line's refusal
 abbrev pub numbers_of : List (List ℕ) → Numbers
-numbers_of fs = record {
-  count = length fs;
-  refusal = refusal_of fs;
-  list = padded room (cond (eqb (refusal_of fs) 0) (values fs) []);
-}
+numbers_of fs = record { count = length fs; values = unless (refusal_of fs) (padded room (values fs)) }
 
 unfoldable pub numbers_at : ℕ → List ℕ → Numbers
 numbers_at at l = numbers_of (fields_at at l)

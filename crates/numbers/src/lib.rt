@@ -7,17 +7,16 @@ mod zeros;
 
 pub use lines::line_at;
 pub use reading::read_numbers;
+use refusals::Refusal;
 
 // As many numbers as a line of 255 bytes has room for.
 pub const ROOM: usize = 128;
 
-// The number fields of a line: how many there are, the number that refuses the line, or 0, and their values with zeros behind
-// them. A refused line has no values.
+// The number fields of a line: how many there are, and their values with zeros behind them, or what refuses the line.
 #[derive(Clone, Copy)]
 pub struct Numbers {
     pub count: usize,
-    pub refusal: u16,
-    pub list: [u16; ROOM],
+    pub values: Result<[u16; ROOM], Refusal>,
 }
 
 // Where a line of a text ends, and where the line behind it begins.

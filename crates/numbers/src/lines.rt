@@ -5,16 +5,12 @@ ghost use Rattle.numbers.specs.Lines.{line_at};
 use crate::LineAt;
 use fields::end_from;
 
-// What ends a line of a text.
-const NEWLINE: u8 = 10;
-
 // The line at a place of a text. At the text's end, and past it, there is none: it ends there, and so does the text.
 pub fn line_at(text: &[u8], at: usize) -> LineAt
     ensures { result ≡ line_at at text.now }
 {
-    let end = end_from(text, at, NEWLINE);
-    if end < text.len() {
-        return LineAt { end, next: end + 1 };
-    }
-    LineAt { end, next: end }
+    let end = end_from(text, at, b'\n');
+    // Behind the byte that ends the line, where there is one.
+    let next = text.len().min(end + 1);
+    LineAt { end, next }
 }

@@ -1,11 +1,12 @@
 -- Runs of stores: one behind the other is one of the joined text, and a run in the rest of a buffer is one in the whole.
 use mathlib.Core.Path.{◌≡◌, refl, ap, ◌∙◌}
-use mathlib.Core.List.{List, [], ◌∷◌, ◌++◌, append-nil}
+use mathlib.Core.List.{List, [], ◌∷◌, ◌++◌, append-nil, append_assoc}
 use Prim.Native.Nat.{ℕ, zero, suc, ◌+◌, ◌-◌, ◌≤◌}
 use native.Mathlib.Nat.{zero-add, add-zero, suc-add, le_refl, not-suc-le-zero, le_of_suc-le-suc}
+use native.Mathlib.Numerals.{add-one}
 use native.Mathlib.Omega.{arith}
-use lib.ListN.{length, take, drop, set, length-drop, drop_of_length-le}
-use lib.Seq.{sets, take_all}
+use lib.ListN.{length, take, drop, set, length-drop, length-set, drop_of_length-le}
+use lib.Seq.{sets, sets-eq, drop-drop, take_all}
 use borrow.Rule.Slice.PartMut.{mid_of, put_mid, put_same}
 
 -- a text behind a text is the joined text
@@ -22,6 +23,14 @@ sets_drop : (out : List ℕ) (at k : ℕ) (text : List ℕ) → at ≤ length ou
 sets_drop out zero k text h = rw zero-add
 sets_drop [] (suc at) k text h = absurd (not-suc-le-zero h)
 sets_drop (x ∷ out) (suc at) k text h = rw (suc-add, sets_cons x out, ← sets_drop out at k text (le_of_suc-le-suc h))
+
+-- a text put in place of a part as long is the text stored there
+pub put_part : (at k : ℕ) (out text : List ℕ) {part : List ℕ} → at + length text ≤ length out → k ≡ length text → part ≡ text → put_mid at k out part ≡ sets out at text
+put_part at k out text h e p = rw (p, e, sets-eq text out at h, drop-drop, append_assoc)
+
+-- and one put behind a byte
+pub put_behind : (x at k : ℕ) (out text : List ℕ) {part : List ℕ} → at + suc (length text) ≤ length out → k ≡ length text → part ≡ text → put_mid (at + 1) k (set out at x) part ≡ sets out at (x ∷ text)
+put_behind x at k out text h e p = rw add-one (put_part (suc at) k (set out at x) text (omega (arith, h, length-set {A = ℕ})) e p)
 
 -- what `&mut out[at..]` lends, and the whole when it is back with ys in its place
 abbrev pub rest_of : ℕ → List ℕ → List ℕ

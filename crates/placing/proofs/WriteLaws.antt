@@ -12,16 +12,17 @@ use borrow.Author.Tests.{le-leb, lt-leb, leb-true, leb-false}
 use borrow.Rule.Slice.PartMut.{mid_len}
 use Rattle.placing.specs.Placing.{wrote, written, Writes}
 use Rattle.placing.proofs.Stores.{sets_append, rest_of, put_rest, put_rest_same, put_rest_sets}
-use Rattle.placing.specs.declared.Wrote.{Wrote}
-use Rattle.placing.specs.declared.Wrote.TheVariants.{Count, Refused}
+use Rattle.refusals.specs.declared.Refusal.{Refusal}
+use Rattle.refusals.specs.declared.Refusal.TheVariants.{NoRoom}
+use Rattle.std.specs.Prelude.{Result, Ok, Err}
 
 module _ (text : List ℕ) (at : ℕ) (out : List ℕ) where
   -- ---- the definitions in each of the two cases
-  pub wrote_fits : at + length text ≤ length out → wrote text at out ≡ Count (length text)
+  pub wrote_fits : at + length text ≤ length out → wrote text at out ≡ Ok (length text)
   unfolding wrote
   wrote_fits h = rw le-leb
 
-  pub wrote_short : length out < at + length text → wrote text at out ≡ Refused 27
+  pub wrote_short : length out < at + length text → wrote text at out ≡ Err NoRoom
   unfolding wrote
   wrote_short h = rw lt-leb
 
@@ -41,19 +42,19 @@ module _ (text : List ℕ) (at : ℕ) (out : List ℕ) where
       by_test false e = g (leb-false _ _ e)
 
   -- an answer that is a count says that the text fits
-  pub wrote_count : {n : ℕ} → wrote text at out ≡ Count n → (n ≡ length text) × (at + length text ≤ length out)
+  pub wrote_count : {n : ℕ} → wrote text at out ≡ Ok n → (n ≡ length text) × (at + length text ≤ length out)
   wrote_count {n} e =
-      fits_or_short (λ h. let f : wrote text at out ≡ Count (length text) = wrote_fits h in (cc, h))
-      (λ h. let f : wrote text at out ≡ Refused 27 = wrote_short h in let z : ◌≡◌ {A = ℕ} 0 1 = cc in omega arith)
+      fits_or_short (λ h. let f : wrote text at out ≡ Ok (length text) = wrote_fits h in (cc, h))
+      (λ h. let f : wrote text at out ≡ Err NoRoom = wrote_short h in cc)
 
   pub written_length : length (written text at out) ≡ length out
   written_length = fits_or_short (λ h. ap length (written_fits h) ∙ length-sets out at text) (λ h. ap length (written_short h))
 
   -- ---- a writer's promise in each of the two cases
-  pub places : {r : Wrote} {left : List ℕ} → at + length text ≤ length out → r ≡ Count (length text) → left ≡ sets out at text → Writes text at out r left
+  pub places : {r : Result ℕ Refusal} {left : List ℕ} → at + length text ≤ length out → r ≡ Ok (length text) → left ≡ sets out at text → Writes text at out r left
   places h e s = (e ∙ sym (wrote_fits h), s ∙ sym (written_fits h))
 
-  pub refuses : {r : Wrote} {left : List ℕ} → length out < at + length text → r ≡ Refused 27 → left ≡ out → Writes text at out r left
+  pub refuses : {r : Result ℕ Refusal} {left : List ℕ} → length out < at + length text → r ≡ Err NoRoom → left ≡ out → Writes text at out r left
   refuses h e s = (e ∙ sym (wrote_short h), s ∙ sym (written_short h))
 
 -- after a writer of a, the text b behind it gives what the joined text gives
@@ -65,7 +66,7 @@ module _ (text : List ℕ) (at : ℕ) (out : List ℕ) (inside : at ≤ length o
   rest_length : length (rest_of at out) + at ≡ length out
   rest_length = omega (arith, mid_len at (length out) out (le_refl _))
 
-  pub from_rest : (k : ℕ) {r : Wrote} {left : List ℕ} → Writes text k (rest_of at out) r left → Writes text (at + k) out r (put_rest at out left)
+  pub from_rest : (k : ℕ) {r : Result ℕ Refusal} {left : List ℕ} → Writes text k (rest_of at out) r left → Writes text (at + k) out r (put_rest at out left)
   from_rest k w =
       fits_or_short text k (rest_of at out)
       (λ h.
@@ -75,5 +76,5 @@ module _ (text : List ℕ) (at : ℕ) (out : List ℕ) (inside : at ≤ length o
       refuses text (at + k) out (omega (arith, rest_length)) (w.0 ∙ wrote_short text k (rest_of at out) h)
       (ap (put_rest at out) (w.1 ∙ written_short text k (rest_of at out) h) ∙ put_rest_same at out))
 
-  pub from_rest_start : {r : Wrote} {left : List ℕ} → Writes text 0 (rest_of at out) r left → Writes text at out r (put_rest at out left)
+  pub from_rest_start : {r : Result ℕ Refusal} {left : List ℕ} → Writes text 0 (rest_of at out) r left → Writes text at out r (put_rest at out left)
   from_rest_start w = rw add-zero at (from_rest 0 w)

@@ -1,26 +1,30 @@
--- One read behind what was read before; and what the bytes read say of the whole input.
-use Rattle.std.proofs.Common.{◌≡◌, ◌∙◌, sym, ap, subst, ℕ, ◌+◌, ◌-◌, ◌<◌, ◌≤◌, None, Some, IfSome, List, ◌++◌, append-nil, length, take, drop, arith}
+-- One read behind what was read before, and what the bytes read say of the whole input.
+use Rattle.std.proofs.Common.{◌≡◌, ◌∙◌, sym, ap, subst, ℕ, ◌+◌, ◌<◌, ◌≤◌, None, Some, IfSome, List, ◌++◌, append-nil, length, take, Result, Ok, Err, MatchResult, arith}
 use Rattle.std.proofs.Math.Logic.{⊎_elim}
 use Rattle.std.proofs.Math.Nat.{eq-or-lt_of_le}
-use Rattle.std.proofs.Math.Seq.{length-take-le, take-add}
+use Rattle.std.proofs.Math.Seq.{length-take-le, take-append-add}
+use Rattle.std.proofs.lemmas.List.{take-append-le}
+use borrow.Rule.Slice.PartMut.{put_mid}
 use Rattle.std.proofs.KnownBytes.{Consumes-trans}
 use Rattle.std.specs.Io.KnownBytes.{Consumes}
 use Rattle.std.specs.declared.option.Option.{Option}
-use Rattle.reading.specs.Input.{Gives}
-use Rattle.reading.specs.declared.Input.TheVariants.{Bytes}
+use Rattle.std.specs.declared.io.Error.{Error}
+use Rattle.reading.specs.Input.{ReadBetween, Gives}
+use Rattle.reading.specs.declared.failures.Failure.{Failure}
 
--- the bytes read before, which the read kept, and those that it gave behind them are the first that the reader had left
-pub reads_on : (a b c : Option (List ℕ)) (at n : ℕ) (old new : List ℕ) → at ≤ n → take at new ≡ take at old → Consumes a b (take at old) → Consumes b c (take (n - at) (drop at new)) → Consumes a c (take n new)
-reads_on a b c at n old new l kept before more =
-    let there : at + (n - at) ≡ n = omega arith in
-    let both : take n new ≡ take at old ++ take (n - at) (drop at new) =
-    ap (λ (k : ℕ). take k new) (sym there) ∙ take-add at (n - at) new ∙ ap (λ (x : List ℕ). x ++ take (n - at) (drop at new)) kept in
-    subst (Consumes a c) (sym both) (Consumes-trans a b c (take at old) (take (n - at) (drop at new)) before more)
+-- what a read put behind the bytes read before, into the rest of the buffer, is the next that the reader had left
+pub reads_on : (a b c : Option (List ℕ)) (at k n : ℕ) (old got : List ℕ) → at ≤ length old → n ≤ length got → Consumes a b (take at old) → Consumes b c (take n got)
+    → Consumes a c (take (at + n) (put_mid at k old got))
+reads_on a b c at k n old got within few before more =
+    let front : at ≡ length (take at old) = sym (length-take-le at old within) in
+    let both : take (at + n) (put_mid at k old got) ≡ take at old ++ take n got =
+    ap (λ (j : ℕ). take (j + n) (put_mid at k old got)) front ∙ take-append-add (take at old) _ n ∙ ap (λ (x : List ℕ). take at old ++ x) (take-append-le n got _ few) in
+    subst (Consumes a c) (sym both) (Consumes-trans a b c (take at old) (take n got) before more)
 
 -- Where texts of more than `most` bytes that begin alike are taken alike, what was read into a buffer of one byte more is taken as the whole
 -- input is.
 pub reads_enough : {X : Type 0} (f : List ℕ → X) (most : ℕ) → ((t rest : List ℕ) → most < length t → f (t ++ rest) ≡ f t) → (before after : Option (List ℕ)) (n : ℕ) (buf : List ℕ)
-    → length buf ≡ most + 1 → n ≤ length buf → Gives before after (Bytes n) buf → IfSome before (λ s. f (take n buf) ≡ f s)
+    → length buf ≡ most + 1 → n ≤ length buf → Gives before after (Ok n) buf → IfSome before (λ s. f (take n buf) ≡ f s)
 reads_enough f most same None after n buf room within read = tt
 reads_enough f most same (Some s) None n buf room within read = absurd read.0
 reads_enough f most same (Some s) (Some rest) n buf room within read = ⊎_elim full at_end (eq-or-lt_of_le within)
@@ -30,3 +34,12 @@ reads_enough f most same (Some s) (Some rest) n buf room within read = ⊎_elim 
 
     full : n ≡ length buf → f (take n buf) ≡ f s
     full e = sym (ap f read.0 ∙ same (take n buf) rest (omega (arith, length-take-le n buf within)))
+
+-- the same of a reading whose failure was told as one of the program, where there was none
+pub reads_whole : {X : Type 0} (f : List ℕ → X) (most : ℕ) → ((t rest : List ℕ) → most < length t → f (t ++ rest) ≡ f t) → (before after : Option (List ℕ)) (buf : List ℕ)
+    → length buf ≡ most + 1 → (read : Result ℕ Error) (n : ℕ) → MatchResult read (λ k. ◌≡◌ {A = Result ℕ Failure} (Ok n) (Ok k)) (λ e. ⊥) → ReadBetween 0 (length buf) read → Gives before after read buf
+    → IfSome before (λ s. f (take n buf) ≡ f s)
+reads_whole f most same before after buf room (Ok k) n told within read =
+    let e : k ≡ n = cc in
+    reads_enough f most same before after n buf room (subst (λ (j : ℕ). j ≤ length buf) e within.1) (subst (λ (j : ℕ). Gives before after (Ok j) buf) e read)
+reads_whole f most same before after buf room (Err x) n told within read = absurd told

@@ -1,1 +1,2 @@
 pub mod InputLaws
+pub mod OutputLaws

@@ -2,6 +2,8 @@
 use mathlib.Core.Path.{◌≡◌, sym, ap, subst, ◌∙◌}
 use mathlib.Core.Bool.{true, false}
 use mathlib.Core.List.{[], ◌∷◌}
+use Rattle.refusals.specs.declared.Refusal.TheVariants.{NotSound}
+use Rattle.std.specs.Prelude.{Ok, Err}
 use Rattle.rules.specs.Events.{after_all}
 use Rattle.rules.specs.Rounds.{begun}
 use Rattle.rules.specs.Boards.{view, board_of}
@@ -17,13 +19,13 @@ use Rattle.rules.proofs.Theorem.{carries}
 use Rattle.rules.proofs.Views.{begin_sound}
 
 -- its one check fails
-pub begin_refused : (b : Board) → sound b ≡ false → record { answer = 30; board = b } ≡ begin b
+pub begin_refused : (b : Board) → sound b ≡ false → record { answer = Err NotSound; board = b } ≡ begin b
 unfolding begin
 begin_refused b e = rw e
 
 -- it holds: the sheet stays, and the rounds are those of round one
-pub begin_opened : (b : Board) (k : Rounds) → sound b ≡ true → k ≡ begun → record { answer = 0; board = board_of (view b) k } ≡ begin b
-begin_opened b k e q = ap (λ (x : Rounds). record { answer = 0; board = board_of (view b) x }) q ∙ sym (begin_sound b (sound_claims b e))
+pub begin_opened : (b : Board) (k : Rounds) → sound b ≡ true → k ≡ begun → record { answer = Ok tt; board = board_of (view b) k } ≡ begin b
+begin_opened b k e q = ap (λ (x : Rounds). record { answer = Ok tt; board = board_of (view b) x }) q ∙ sym (begin_sound b (sound_claims b e))
 
 -- the contract, from the outcome alone: a beginning is a list of one event
 pub begin_meets : (b : Board) (o : Outcome) → o ≡ begin b → (o ≡ begin b) × Carries b (begins ∷ []) o.board

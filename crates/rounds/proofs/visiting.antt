@@ -1,4 +1,3 @@
-pub mod Arms
 pub mod Room
 pub mod VisitLaws
 pub mod VisitOutcomes

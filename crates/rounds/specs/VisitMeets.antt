@@ -1,5 +1,6 @@
 -- What a visit promises.
-use Rattle.std.specs.Prelude.{◌≡◌, [], ◌∷◌, ℕ}
+use Rattle.std.specs.Prelude.{◌≡◌, [], ◌∷◌, ℕ, Result}
+use Rattle.refusals.specs.declared.Refusal.{Refusal}
 use Rattle.rules.specs.Visits.{visit}
 use Rattle.rules.specs.Lists.{visits}
 use Rattle.rules.specs.Guarantee.{Carries}
@@ -8,7 +9,7 @@ use Rattle.rules.specs.declared.Board.{Board}
 use Rattle.rules.specs.declared.Finding.{Finding}
 
 -- a visit of unit u on the board b finds x and leaves the board c; the guarantee holds of c, and x tells what a verdict says
-pub record VisitMeets (b : Board) (u : ℕ) (x : Finding) (c : Board) : Type 0 where
+pub record VisitMeets (b : Board) (u : ℕ) (x : Result Finding Refusal) (c : Board) : Type 0 where
   pub finding : x ≡ (visit b u).finding
   pub board : c ≡ (visit b u).board
   pub carries : Carries b (visits u ∷ []) c

@@ -5,27 +5,14 @@ mod marks;
 mod visiting;
 
 ghost use Rattle.std.specs.Prelude.{◌≡◌, [], ◌∷◌};
-ghost use Rattle.rules.specs.Rounds.{begun};
 ghost use Rattle.rules.specs.Visits.{begin};
 ghost use Rattle.rules.specs.Lists.{begins};
 ghost use Rattle.rules.specs.Guarantee.{Carries};
 
 use board::is_sound;
-use rules::{Board, Outcome, Round, Rounds};
+use refusals::Refusal;
+use rules::{Board, NO_ROUND, Outcome, Round, Rounds};
 pub use visiting::visit;
-
-// Round one, with no unit visited.
-fn round_one() -> Rounds
-    ensures { result ≡ begun }
-{
-    let visited = [false; 64];
-    Rounds {
-        round: Round::One,
-        visited,
-        processed: 0,
-        created: 0,
-    }
-}
 
 // Opens round one, whatever round was running.
 pub fn begin(mut b: Board) -> Outcome
@@ -35,12 +22,15 @@ pub fn begin(mut b: Board) -> Outcome
     if !is_sound(b) {
         return Outcome {
             board: b,
-            answer: 30,
+            answer: Err(Refusal::NotSound),
         };
     }
-    b.rounds = round_one();
+    b.rounds = Rounds {
+        round: Some(Round::One),
+        ..NO_ROUND
+    };
     Outcome {
         board: b,
-        answer: 0,
+        answer: Ok(()),
     }
 }

@@ -1,151 +1,104 @@
 // A visit of the open round: what refuses it, what it makes of the rounds, and what it finds.
-ghost use Rattle.std.specs.Prelude.{◌≡◌, false, cond, [], ◌∷◌, ◌+◌, ◌<◌, ◌^◌, get_or};
-ghost use Rattle.rules.specs.Facts.{check, holds, fails, judge};
-ghost use Rattle.rules.specs.Rounds.{Seen, is_open, tallied, closed, closing};
-ghost use Rattle.rules.specs.declared.Finding.TheVariants.{NoVerdict, AllQuiet, Unsettled};
+ghost use Rattle.std.specs.Prelude.{◌≡◌, cond, ◌+◌, ◌<◌, ◌^◌};
+ghost use Rattle.rules.specs.Facts.{judge};
+ghost use Rattle.rules.specs.Rounds.{Seen, tallied, closed, closing};
+ghost use Rattle.rules.specs.Visits.{visit_bracket, visit};
+ghost use Rattle.rules.specs.declared.Finding.TheVariants.{NoVerdict};
 ghost use Rattle.rounds.specs.VisitMeets.{VisitMeets};
 
-use crate::marks::{all_marked, marked};
-use board::{is_sound, no_round};
-use rules::{Board, Finding, Round, Rounds, Visited};
+use crate::marks::all_marked;
+use board::is_sound;
+use refusals::Refusal;
+use rules::{Board, Finding, NO_ROUND, Round, Rounds, Visited};
 
-// 0, or the number that refuses the visit of unit i, which is in use: 43, then 42.
-fn refusal(k: Rounds, i: usize, active: bool) -> u16
-    requires { i < 64 }
-    ensures { result ≡ judge (λ n. n) (check (holds (is_open k.round)) 43 ∷ check (fails (get_or k.visited i false)) 43 ∷ check (fails active) 42 ∷ []) 0 }
+// Whether unit u may be visited.
+fn may_visit(b: &Board, u: u16) -> Result<(), Refusal>
+    ensures { result ≡ judge Err (visit_bracket b.now u) (Ok tt) }
 {
-    let round = k.round;
-    let marks = k.visited;
-    if !round.is_open() {
-        return 43;
+    if !is_sound(*b) {
+        return Err(Refusal::NotSound);
     }
-    if marks[i] {
-        return 43;
+    if u >= b.n {
+        return Err(Refusal::NoSuchUnit);
     }
-    if active {
-        return 42;
+    let i = usize::from(u);
+    if b.rounds.round.is_none() || b.rounds.visited[i] {
+        return Err(Refusal::NotToVisit);
     }
-    0
+    if b.units[i].state.is_active() {
+        return Err(Refusal::StillActive);
+    }
+    Ok(())
 }
 
 // Marks unit i and adds its count to the open round's total: what it processed in round one, what it created in round two.
-fn tallied(k: Rounds, i: usize, made: u32, done: u64) -> Rounds
+fn tallied(mut k: Rounds, i: usize, made: u32, done: u64) -> Rounds
     requires { (i < 64) × ((k.processed + done < 2 ^ 64) × (k.created + made < 2 ^ 64)) }
     ensures { (v : Seen) → v.created i ≡ made → v.processed i ≡ done → result ≡ tallied v k i k.round }
 {
-    let round = k.round;
-    let marks = k.visited;
-    let visited = marked(marks, i);
-    let one = k.processed;
-    let two = k.created;
-    match round {
-        Round::None => k,
-        Round::One => Rounds {
-            round: Round::One,
-            visited,
-            processed: one + done,
-            created: two,
-        },
-        Round::Two => Rounds {
-            round: Round::Two,
-            visited,
-            processed: one,
-            created: two + made as u64,
-        },
+    match k.round {
+        None => return k,
+        Some(Round::One) => k.processed += done,
+        Some(Round::Two) => k.created += u64::from(made),
     }
+    k.visited[i] = true;
+    k
 }
 
 // What the last visit of a round leaves: round two opens behind round one, and none behind round two.
 fn closed(k: Rounds) -> Rounds
     ensures { result ≡ closed k k.round }
 {
-    let round = k.round;
-    let visited = [false; 64];
-    let one = k.processed;
-    match round {
-        Round::None => k,
-        Round::One => Rounds {
-            round: Round::Two,
-            visited,
-            processed: one,
-            created: 0,
+    match k.round {
+        None => k,
+        Some(Round::One) => Rounds {
+            round: Some(Round::Two),
+            processed: k.processed,
+            ..NO_ROUND
         },
-        Round::Two => no_round(),
+        Some(Round::Two) => NO_ROUND,
     }
-}
-
-fn left_by(k: Rounds, last: bool) -> Rounds
-    ensures { result ≡ cond last (closed k k.round) k }
-{
-    if last {
-        return closed(k);
-    }
-    k
-}
-
-fn by_totals(same: bool) -> Finding
-    ensures { result ≡ cond same AllQuiet Unsettled }
-{
-    if same {
-        return Finding::AllQuiet;
-    }
-    Finding::Unsettled
 }
 
 // What the last visit of a round finds.
 fn closing(k: Rounds) -> Finding
     ensures { result ≡ closing k k.round }
 {
-    let round = k.round;
-    let same = k.processed == k.created;
-    match round {
-        Round::None => Finding::NoVerdict,
-        Round::One => Finding::NoVerdict,
-        Round::Two => by_totals(same),
+    match k.round {
+        Some(Round::Two) if k.processed == k.created => Finding::AllQuiet,
+        Some(Round::Two) => Finding::Unsettled,
+        None | Some(Round::One) => Finding::NoVerdict,
     }
+}
+
+fn left_by(k: Rounds, last: bool) -> Rounds
+    ensures { result ≡ cond last (closed k k.round) k }
+{
+    if last { closed(k) } else { k }
 }
 
 fn found_by(k: Rounds, last: bool) -> Finding
     ensures { result ≡ cond last (closing k k.round) NoVerdict }
 {
-    if last {
-        return closing(k);
-    }
-    Finding::NoVerdict
+    if last { closing(k) } else { Finding::NoVerdict }
+}
+
+// The visit on a lent board; a refused one leaves it.
+fn visit_lent(b: &mut Board, u: u16) -> Result<Finding, Refusal>
+    ensures { visit b.old u ≡ record { finding = result; board = b.new } }
+{
+    may_visit(b, u)?;
+    let i = usize::from(u);
+    let k = tallied(b.rounds, i, b.created[i], b.processed[i]);
+    let last = all_marked(&k, b.n);
+    b.rounds = left_by(k, last);
+    Ok(found_by(k, last))
 }
 
 // A visit of unit u. A refused one leaves the board.
 pub fn visit(mut b: Board, u: u16) -> Visited
     ensures { VisitMeets b u result.finding result.board }
 {
-    if !is_sound(b) {
-        return Visited {
-            board: b,
-            finding: Finding::Refused(30),
-        };
-    }
-    if u >= b.n {
-        return Visited {
-            board: b,
-            finding: Finding::Refused(13),
-        };
-    }
-    let i = u as usize;
-    let x = b.units[i];
-    let state = x.state;
-    let k = b.rounds;
-    let j = refusal(k, i, state.is_active());
-    if j != 0 {
-        return Visited {
-            board: b,
-            finding: Finding::Refused(j),
-        };
-    }
-    let t = tallied(k, i, b.created[i], b.processed[i]);
-    let last = all_marked(t, b.n);
-    b.rounds = left_by(t, last);
-    Visited {
-        board: b,
-        finding: found_by(t, last),
-    }
+    let finding = visit_lent(&mut b, u);
+    Visited { board: b, finding }
 }

@@ -2,12 +2,10 @@
 use mathlib.Core.Path.{◌≡◌, refl, sym, ap, subst, ◌∙◌}
 use mathlib.Core.Bool.{Bool, true, false, cond}
 use mathlib.Core.List.{List, [], ◌∷◌, ◌++◌, append-nil, append_assoc}
-use Prim.Native.Nat.{ℕ, zero, suc, ◌+◌, ◌-◌, ◌*◌, ◌≤◌, ◌<◌}
-use native.Mathlib.Nat.{sub-zero}
+use Prim.Native.Nat.{ℕ, zero, suc, ◌+◌, ◌*◌, ◌≤◌, ◌<◌}
 use native.Mathlib.Omega.{arith}
 use lib.ListN.{length, take, drop, replicate, length-append}
 use lib.Seq.{sets-eq, take_at, length-take-le}
-use Rattle.std.specs.Prelude.{Result, Ok, Err, is_ok, OnOk}
 use Rattle.std.proofs.KnownBytes.{Appends-trans}
 use Rattle.std.specs.Io.KnownBytes.{Appends}
 use Rattle.std.specs.declared.option.Option.{Option}
@@ -15,20 +13,16 @@ use Rattle.rules.specs.Facts.{Check, check, test, judge}
 use Rattle.rules.proofs.JudgeLaws.{judge_map}
 use Rattle.placing.specs.declared.Wrote.TheVariants.{Count, Refused}
 use Rattle.listing.specs.Scripts.{listing}
-use Rattle.listing.specs.Bounds.{longest_piece, longest_line}
+use Rattle.listing.specs.Bounds.{longest_piece, longest_line, ListingBound}
 use Rattle.listing.specs.Parts.{beginning, ended, rest_from, part, part_checks, part_of, part_buffer, call_text, call_next, joined, cursor_after}
 use Rattle.listing.specs.Turns.{bytes_of}
 use Rattle.listing.specs.declared.Cursor.{Cursor}
 use Rattle.listing.specs.declared.Part.{Part}
+use Rattle.listing.proofs.BoundLaws.{listing_bound}
 use Rattle.listing.proofs.PieceLaws.{turns_left}
 use Rattle.listing.proofs.PartLaws.{part_room}
-use Rattle.listing.proofs.CallLaws.{parts_joined, Counting, counting_begins, counting_ends, counting_goes, counting_fits, counting_less}
+use Rattle.listing.proofs.CallLaws.{parts_joined, Counting, counting_begins, counting_ends, counting_goes, counting_less}
 use Rattle.sheetboard.specs.Output.{Hands, Follows}
-
--- what holds where the output took all
-pub on_taken : {T E P : Type 0} (r : Result T E) → is_ok r ≡ true → OnOk r P → P
-on_taken (Ok x) e p = p
-on_taken (Err x) e p = cc
 
 -- ---- one call
 -- a judged text is no longer than its room
@@ -67,17 +61,14 @@ module _ (c : Cursor) (s out : List ℕ) where
     pub counted_fits : count ≤ length out
     counted_fits = omega (arith, counts, call_fits)
 
-    text : take count left ≡ call_text c s (length out)
-    text = rw (counts, b) call_starts
+    pub handed_text : take count left ≡ call_text c s (length out)
+    handed_text = rw (counts, b) call_starts
 
-    -- what is handed over, the buffer from byte 0 up to byte `count`, are as many bytes as were written
-    pub handed_text : take (count - 0) left ≡ call_text c s (length out)
-    handed_text = ap (λ (k : ℕ). take k left) (sub-zero count) ∙ text
+    pub hands : {before after : ℕ} → after ≡ before + length (take count left) → Hands c s (length out) before after left
+    hands {before} {after} h = record { count_is = h ∙ ap (λ (x : List ℕ). before + length x) handed_text; bytes_are = ap (λ (k : ℕ). take k left) (sym counts) ∙ handed_text }
 
-    pub hands : {handed : ℕ} → handed ≡ length (take (count - 0) left) → Hands c s (length out) handed p.cursor left
-    hands {handed} h =
-        let all : handed ≡ count = h ∙ ap length handed_text ∙ sym counts in
-        record { count_is = all ∙ counts; bytes_are = ap (λ (k : ℕ). take k left) all ∙ text; next_is = ap (λ (x : Part). x.cursor) e ∙ call_cursor }
+    pub goes_on : p.cursor ≡ call_next c s (length out)
+    goes_on = ap (λ (x : Part). x.cursor) e ∙ call_cursor
 
 -- ---- turns one after another, each with the same room
 abbrev rooms : ℕ → List ℕ
@@ -113,15 +104,17 @@ pub handing_begins : (s : List ℕ) (c : Cursor) → c ≡ beginning → Handing
 unfolding joined cursor_after joined_follows
 handing_begins s c e = record { counting = counting_begins s c e; follows = joined_follows s 0 0 refl; behind = e }
 
+-- no listing is too long to be counted
+pub handing_most : {s : List ℕ} {c : Cursor} {n : ℕ} → Handing s c n → n ≤ longest_piece + longest_line * 65534
+unfolding ListingBound
+handing_most {s} {c} {n} t = omega (arith, t.follows.no_more, listing_bound s)
+
 pub handing_ends : (s : List ℕ) (c : Cursor) (n : ℕ) → Handing s c n → ended c s ≡ true → n ≡ length (listing s)
 handing_ends s c n t e = counting_ends s c n t.counting e
 
-module _ {s : List ℕ} {c : Cursor} {n : ℕ} (t : Handing s c n) (more : ended c s ≡ false) (out : List ℕ) (room : length out ≡ 32768) {count : ℕ} {next : Cursor} {left : List ℕ} (h : Hands c s (length out) count next left) where
-  bytes : count ≡ bytes_of (part_of c s out).wrote
-  bytes = h.count_is ∙ sym (call_count c s out)
-
-  cursor : (part_of c s out).cursor ≡ next
-  cursor = call_cursor c s out ∙ sym h.next_is
+module _ {s : List ℕ} {c : Cursor} {n : ℕ} (t : Handing s c n) (more : ended c s ≡ false) (out : List ℕ) (room : length out ≡ 32768) {after : ℕ} {left : List ℕ} (h : Hands c s (length out) n after left) where
+  bytes : length (call_text c s (length out)) ≡ bytes_of (part_of c s out).wrote
+  bytes = sym (call_count c s out)
 
   enough : longest_piece ≤ length out
   enough = omega (arith, room)
@@ -136,31 +129,31 @@ module _ {s : List ℕ} {c : Cursor} {n : ℕ} (t : Handing s c n) (more : ended
   part_text = ap (λ (x : Cursor). call_text x s (length out)) t.behind ∙ ap (call_text from s) room
 
   -- the bytes counted are those of the parts, this one with them
-  counted : length (joined beginning s (rooms (suc so_far))) ≡ n + count
+  counted : length (joined beginning s (rooms (suc so_far))) ≡ after
   counted =
       omega (arith, ap length (joined_next so_far beginning s), length-append (joined beginning s (rooms so_far)) (call_text from s 32768), ap length t.follows.joins, length-take-le n (listing s) t.follows.no_more, ap length part_text, h.count_is)
 
   -- the bytes counted are those before, and behind them this part's
-  counted_text : take (n + count) (listing s) ≡ take n (listing s) ++ call_text c s (length out)
+  counted_text : take after (listing s) ≡ take n (listing s) ++ call_text c s (length out)
   unfolding joined_follows
   counted_text =
-      sym (joined_follows s (suc so_far) (n + count) counted).joins ∙ joined_next so_far beginning s
+      sym (joined_follows s (suc so_far) after counted).joins ∙ joined_next so_far beginning s
       ∙ ap (λ (x : List ℕ). x ++ call_text from s 32768) t.follows.joins ∙ ap (λ (x : List ℕ). take n (listing s) ++ x) (sym part_text)
 
   -- so where the output has got those before, and then takes this part, it has got all that is counted
-  pub handing_arrives : (a b d : Option (List ℕ)) → Appends a b (take n (listing s)) → Appends b d (call_text c s (length out)) → Appends a d (take (n + count) (listing s))
+  pub handing_arrives : (a b d : Option (List ℕ)) → Appends a b (take n (listing s)) → Appends b d (call_text c s (length out)) → Appends a d (take after (listing s))
   handing_arrives a b d first then = subst (Appends a d) (sym counted_text) (Appends-trans a b d (take n (listing s)) (call_text c s (length out)) first then)
 
-  pub handing_goes : Handing s next (n + count)
+  pub handing_follows : Follows s after
+  handing_follows = joined_follows s (suc so_far) after counted
+
+  pub handing_goes : {next : Cursor} → next ≡ call_next c s (length out) → Handing s next after
   unfolding joined_follows
-  handing_goes = record {
-    counting = subst (λ (x : Cursor). Counting s x (n + count)) cursor (counting_goes t.counting more out enough refl bytes);
-    follows = joined_follows s (suc so_far) (n + count) counted;
-    behind = h.next_is ∙ ap (λ (x : Cursor). call_next x s (length out)) t.behind ∙ ap (call_next from s) room ∙ sym (cursor_next so_far beginning s);
+  handing_goes e = record {
+    counting = subst (λ (x : Cursor). Counting s x after) (call_cursor c s out ∙ sym e) (subst (Counting s (part_of c s out).cursor) (sym h.count_is) (counting_goes t.counting more out enough refl bytes));
+    follows = joined_follows s (suc so_far) after counted;
+    behind = e ∙ ap (λ (x : Cursor). call_next x s (length out)) t.behind ∙ ap (call_next from s) room ∙ sym (cursor_next so_far beginning s);
   }
 
-  pub handing_fits : n + count ≤ longest_piece + longest_line * 65534
-  handing_fits = counting_fits t.counting more out enough refl bytes
-
-  pub handing_less : turns_left next s < turns_left c s
-  handing_less = subst (λ (x : Cursor). turns_left x s < turns_left c s) cursor (counting_less t.counting more out enough {p = part_of c s out} refl)
+  pub handing_less : {next : Cursor} → next ≡ call_next c s (length out) → turns_left next s < turns_left c s
+  handing_less e = subst (λ (x : Cursor). turns_left x s < turns_left c s) (call_cursor c s out ∙ sym e) (counting_less t.counting more out enough {p = part_of c s out} refl)

@@ -1,18 +1,16 @@
 -- What the program hands to its output: the listing, part by part.
-use Rattle.std.specs.Prelude.{◌≡◌, Bool, true, List, ℕ, ◌≤◌, length, take, replicate}
-use Rattle.std.specs.Io.KnownBytes.{Keeps, Appends}
+use Rattle.std.specs.Prelude.{◌≡◌, ◌+◌, Bool, true, false, List, ℕ, ◌≤◌, length, take, replicate, Result, Ok, Err, IfSome}
 use Rattle.std.specs.declared.option.Option.{Option}
 use Rattle.listing.specs.Scripts.{listing}
-use Rattle.listing.specs.Parts.{beginning, call_text, call_next, joined}
+use Rattle.listing.specs.Parts.{beginning, call_text, joined}
 use Rattle.listing.specs.declared.Cursor.{Cursor}
-use Rattle.reading.specs.declared.Input.{Input}
-use Rattle.reading.specs.declared.Input.TheVariants.{Bytes, Failed}
+use Rattle.reading.specs.declared.failures.Failure.{Failure}
+use Rattle.reading.specs.declared.failures.Failure.TheVariants.{Reading, Writing}
 
--- one part from a cursor, with a buffer of so many bytes: the first `count` bytes that the buffer is left with, and the cursor behind them
-pub record Hands (c : Cursor) (s : List ℕ) (room count : ℕ) (next : Cursor) (left : List ℕ) : Type 0 where
-  pub count_is : count ≡ length (call_text c s room)
-  pub bytes_are : take count left ≡ call_text c s room
-  pub next_is : next ≡ call_next c s room
+-- one part from a cursor, with a buffer of so many bytes: it is what the buffer is left with at its start, and its bytes are counted
+pub record Hands (c : Cursor) (s : List ℕ) (room before after : ℕ) (left : List ℕ) : Type 0 where
+  pub count_is : after ≡ before + length (call_text c s room)
+  pub bytes_are : take (length (call_text c s room)) left ≡ call_text c s room
 
 -- The point of the loop: each turn hands over the next bytes of the listing. So the parts of so many turns, each with a buffer of 32,768 bytes,
 -- joined, are the first `count` bytes of it.
@@ -26,12 +24,14 @@ pub record HandsOver (s : List ℕ) (taken : Bool) (count : ℕ) : Type 0 where
   pub follows : Follows s count
   pub all : taken ≡ true → count ≡ length (listing s)
 
--- of a reading: the listing of the bytes read; of one that failed, nothing
-abbrev pub Lists : Input → List ℕ → Bool → ℕ → Type 0
-Lists (Bytes n) buf taken count = HandsOver (take n buf) taken count
-Lists (Failed e) buf taken count = count ≡ 0
+-- of an input: the same of the bytes that were read, whose listing is that of the whole input where this is known
+pub record ListsRead (input : Option (List ℕ)) (taken : Bool) (count : ℕ) : Type 0 where
+  pub read : List ℕ
+  pub whole : IfSome input (λ s. listing read ≡ listing s)
+  pub handed : HandsOver read taken count
 
--- what reaches the output of a reading: the listing of the bytes read, where it took all; of one that failed, nothing
-abbrev pub Arrives : Option (List ℕ) → Option (List ℕ) → Input → List ℕ → Bool → Type 0
-Arrives before after (Bytes n) buf taken = taken ≡ true → Appends before after (listing (take n buf))
-Arrives before after (Failed e) buf taken = Keeps before after
+-- what is handed over of an input: where a read failed, nothing
+abbrev pub Lists : Option (List ℕ) → Result Unit Failure → ℕ → Type 0
+Lists input (Ok x) count = ListsRead input true count
+Lists input (Err (Writing e)) count = ListsRead input false count
+Lists input (Err (Reading e)) count = count ≡ 0

@@ -2,52 +2,65 @@
 // numbers; the words and the layout are decided here.
 #![tactic(auto)]
 
-mod cells;
 mod rows;
 
-use rows::row;
+use reading::Failure;
+use rows::{Tree, row};
 use std::io;
 
-// How many boards there are: four trees, one or two slots, delay 0 or 1.
-const BOARDS: u16 = 16;
+// The trees of one, two and three units.
+const TREES: [Tree; 4] = [
+    Tree {
+        parents: &[],
+        told: "-",
+    },
+    Tree {
+        parents: &[0],
+        told: "0",
+    },
+    Tree {
+        parents: &[0, 0],
+        told: "0 0",
+    },
+    Tree {
+        parents: &[0, 1],
+        told: "0 1",
+    },
+];
 
-// Lengths 0 to 4.
-const LENGTHS: u16 = 5;
-
-pub(crate) fn hand_over(to: &impl Print, text: &[u8]) -> io::Result<()> {
-    to.write_all(text)
-}
+// One or two slots, and delay 0 or 1.
+const SIZES: [(u16, u16); 4] = [(1, 0), (1, 1), (2, 0), (2, 1)];
 
 // An empty line, then a row for each length.
-fn board_rows(to: &impl Print, board: u16) -> io::Result<()> {
-    hand_over(to, b"\n")?;
-    for length in 0..LENGTHS {
-        row(to, board, length)?;
+fn board_rows(to: &impl Print, tree: &Tree, slots: u16, delay: u16) -> io::Result<()> {
+    println!(to)?;
+    for length in 0..=4 {
+        row(to, tree, slots, delay, length)?;
+    }
+    Ok(())
+}
+
+fn tree_rows(to: &impl Print, tree: &Tree) -> io::Result<()> {
+    for (slots, delay) in SIZES {
+        board_rows(to, tree, slots, delay)?;
     }
     Ok(())
 }
 
 // Fails where the output takes no more.
 fn table(to: &impl Print) -> io::Result<()> {
-    hand_over(to, &cells::COLUMNS)?;
-    for board in 0..BOARDS {
-        board_rows(to, board)?;
+    println!(to;
+        "slots  delay  parents  length    lists   finished   share       busy   share      other   share"
+    )?;
+    for tree in &TREES {
+        tree_rows(to, tree)?;
     }
     Ok(())
 }
 
-// Tells that the output takes no more, and why, in a line: the cause in words and without its number, unless there is no room to cut it.
-fn tell_failure(rt: &HostRuntime, cause: io::Error) -> io::Result<()> {
-    let Ok(text) = format!(in rt.alloc(); "{cause}") else {
-        return eprintln!(rt; "sheetcensus: writing standard output: {cause}");
-    };
-    let words = text.as_str().split(" (os error ").next().unwrap_or("");
-    eprintln!(rt; "sheetcensus: writing standard output: {words}")
-}
-
 fn main(rt: HostRuntime) {
-    if let Err(cause) = table(&rt) {
-        // Where that line cannot be written either, there is nobody left to tell.
-        let _ = tell_failure(&rt, cause);
+    if let Err(failure) = table(&rt).map_err(Failure::Writing) {
+        // Where this line cannot be written either, there is nobody left to tell.
+        let _ = eprintln!(rt; "sheetcensus: {failure}");
     }
 }

@@ -1,3 +1,2 @@
 pub mod Drains
 pub mod Lines
-pub mod Output

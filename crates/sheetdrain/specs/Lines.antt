@@ -1,9 +1,9 @@
--- The line that the program writes, at the start of a buffer.
-use Rattle.std.specs.Prelude.{◌≡◌, List, [], ◌∷◌, ◌++◌, ℕ, length}
-use Rattle.std.proofs.lemmas.List.Edits.{sets}
+-- The line that the program writes.
+use Rattle.std.specs.Prelude.{List, [], ◌∷◌, ◌++◌, ℕ}
 use Rattle.decimal.specs.Spelling.{spelled}
 use Rattle.drains.specs.declared.Longest.{Longest}
 use Rattle.drains.specs.declared.Longest.TheVariants.{Steps, Refused}
+use Rattle.sheetdrain.specs.Drains.{script_drain}
 
 -- "at most ", " steps more" with the byte that ends the line, "refused by "
 abbrev pub at_most_text : List ℕ
@@ -24,6 +24,6 @@ abbrev pub line_of : Longest → List ℕ
 line_of (Steps n) = between at_most_text n steps_more_text
 line_of (Refused k) = between refused_by_text k (10 ∷ [])
 
--- what a writer of a text promises: r is how many bytes that is, and the buffer is left with them at its start and the rest as it was
-abbrev pub Puts : List ℕ → List ℕ → ℕ → List ℕ → Type 0
-Puts text line r left = (r ≡ length text) × (left ≡ sets line 0 text)
+-- the line for a script
+abbrev pub script_line : List ℕ → List ℕ
+script_line s = line_of (script_drain s)

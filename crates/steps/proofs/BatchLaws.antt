@@ -4,11 +4,19 @@ use mathlib.Core.Bool.{Bool, true, false, cond}
 use mathlib.Core.List.{List, [], ◌∷◌, ◌++◌}
 use Prim.Native.Nat.{ℕ, zero, suc, ◌+◌, ◌-◌, ◌≤◌, ◌<◌, min}
 use native.Mathlib.Numerals.{add-one, unary_clauses}
-use native.Mathlib.Nat.{add-zero, zero-add, zero-sub, zero-min, min-zero, suc-min-suc}
+use native.Mathlib.Nat.{add-zero, zero-add, zero-sub}
 use native.Mathlib.Omega.{arith}
+use mir.Val.{bool_byte as from_bool}
 use lib.Dec.{eqb}
-use lib.ListN.{length, get_or, set, take, drop, replicate, length-take, length-replicate, drop_of_length-le}
-use lib.Seq.{sets, sets-eq, drop-cons, get_or-take}
+use lib.ListN.{length, get_or, set, take, drop, replicate, length-replicate, drop_of_length-le}
+use lib.Seq.{sets, sets-eq, drop-cons}
+use borrow.Author.Tests.{ne_eqb}
+use Rattle.std.specs.Prelude.{Result, Ok, Err, is_ok}
+use Rattle.refusals.proofs.NumberLaws.{refused_above_zero}
+use Rattle.refusals.specs.declared.Refusal.TheVariants.{NotSound}
+use Rattle.refusals.specs.declared.Refusal.{Refusal}
+use Rattle.refusals.specs.Numbers.{number, number_of}
+use Rattle.std.proofs.lemmas.List.{take_min}
 use Rattle.rules.specs.Events.{after_all, all_answers}
 use Rattle.rules.specs.Facts.{one_if}
 use Rattle.rules.specs.Sound.{sound}
@@ -20,13 +28,15 @@ use Rattle.rules.specs.declared.Board.{Board}
 use Rattle.rules.specs.declared.StepRecord.{StepRecord}
 use Rattle.rules.specs.declared.Outcome.{Outcome}
 use Rattle.rules.specs.declared.Batch.{Batch}
-use Rattle.rules.specs.declared.Ran.TheVariants.{Zeros, Refused}
 use Rattle.rules.proofs.Theorem.{steps_carry}
+use Rattle.rules.proofs.EventSound.{step_keeps_sound}
+use Rattle.rules.proofs.SoundLaws.{sound_claims, sound_tested}
+use Rattle.board.proofs.SlotLaws.{one_at_most}
 use Rattle.steps.specs.NoStep.{no_step}
 
 -- the batch where the steps rs are left on the board b, z zeros are counted, and the next answer and the next debt go to place i of ks and ds
 unfoldable pub filled : Board → List StepRecord → ℕ → ℕ → List ℕ → List ℕ → Batch
-filled b rs z i ks ds = record { ran = Zeros (z + zeros (answers b rs)); board = after b rs; answers = sets ks i (answers b rs); debts = sets ds i (debts b rs) }
+filled b rs z i ks ds = record { ran = Ok (z + zeros (answers b rs)); board = after b rs; answers = sets ks i (answers b rs); debts = sets ds i (debts b rs) }
 
 -- ---- a turn
 pub one_more : (z m : ℕ) (t : Bool) → (z + one_if t) + m ≡ z + cond t (suc m) m
@@ -34,33 +44,58 @@ one_more z m true = omega arith
 one_more z m false = omega arith
 
 filled_step : (b : Board) (r : StepRecord) (rs : List StepRecord) (z i : ℕ) (ks ds : List ℕ)
-    → filled (step b r).board rs (z + one_if (accepted b r)) (suc i) (set ks i (step b r).answer) (set ds i (step b r).board.debt) ≡ filled b (r ∷ rs) z i ks ds
+    → filled (step b r).board rs (z + one_if (accepted b r)) (suc i) (set ks i (number_of (step b r).answer)) (set ds i (step b r).board.debt) ≡ filled b (r ∷ rs) z i ks ds
 unfolding filled after_all all_answers debts zeros
 filled_step b r rs z i ks ds =
     let c : Board = (step b r).board in
-    ap (λ (m : ℕ). record { ran = Zeros m; board = after c rs; answers = sets (set ks i (step b r).answer) (suc i) (answers c rs); debts = sets (set ds i c.debt) (suc i) (debts c rs) })
+    ap (λ (m : ℕ). record { ran = Ok m; board = after c rs; answers = sets (set ks i (number_of (step b r).answer)) (suc i) (answers c rs); debts = sets (set ds i c.debt) (suc i) (debts c rs) })
     (one_more z (zeros (answers c rs)) (accepted b r))
 
--- the step at place i of the n that are run, with its outcome o stored and counted, leaves what the steps from i on gave
-pub filled_turn : (steps : List StepRecord) (n : ℕ) (b : Board) (z i k : ℕ) (ks ds : List ℕ) (o : Outcome) → n ≤ length steps → i < n → o ≡ step b (get_or steps i no_step) → k ≡ one_if (eqb o.answer 0)
-    → filled o.board (drop (i + 1) (take n steps)) (z + k) (i + 1) (set ks i o.answer) (set ds i o.board.debt) ≡ filled b (drop i (take n steps)) z i ks ds
-filled_turn steps n b z i k ks ds o m l e f =
-    let rs = take n steps in
-    let g : o ≡ step b (get_or rs i no_step) = e ∙ ap (step b) (sym (get_or-take n steps i no_step l)) in
-    ap (λ (j : ℕ). filled o.board (drop (i + 1) rs) (z + j) (i + 1) (set ks i o.answer) (set ds i o.board.debt)) f
-    ∙ ap (λ (j : ℕ). filled o.board (drop j rs) (z + one_if (eqb o.answer 0)) j (set ks i o.answer) (set ds i o.board.debt)) (add-one i)
-    ∙ ap (λ (p : Outcome). filled p.board (drop (suc i) rs) (z + one_if (eqb p.answer 0)) (suc i) (set ks i p.answer) (set ds i p.board.debt)) g
+-- the step at place i of the list, with its outcome o stored and counted, leaves what the steps from i on gave
+filled_turn : (rs : List StepRecord) (b : Board) (z i : ℕ) (ks ds : List ℕ) (o : Outcome) → i < length rs → step b (get_or rs i no_step) ≡ o
+    → filled o.board (drop (i + 1) rs) (z + one_if (eqb (number_of o.answer) 0)) (i + 1) (set ks i (number_of o.answer)) (set ds i o.board.debt) ≡ filled b (drop i rs) z i ks ds
+filled_turn rs b z i ks ds o l e =
+    ap (λ (j : ℕ). filled o.board (drop j rs) (z + one_if (eqb (number_of o.answer) 0)) j (set ks i (number_of o.answer)) (set ds i o.board.debt)) (add-one i)
+    ∙ ap (λ (p : Outcome). filled p.board (drop (suc i) rs) (z + one_if (eqb (number_of p.answer) 0)) (suc i) (set ks i (number_of p.answer)) (set ds i p.board.debt)) (sym e)
     ∙ filled_step b (get_or rs i no_step) (drop (suc i) rs) z i ks ds
-    ∙ ap (λ (qs : List StepRecord). filled b qs z i ks ds) (sym (drop-cons rs i no_step (omega (arith, length-take n steps))))
+    ∙ ap (λ (qs : List StepRecord). filled b qs z i ks ds) (sym (drop-cons rs i no_step l))
 
 -- ---- the end
-filled_none : (b : Board) (z i : ℕ) (ks ds : List ℕ) → filled b [] z i ks ds ≡ record { ran = Zeros z; board = b; answers = ks; debts = ds }
+filled_none : (b : Board) (z i : ℕ) (ks ds : List ℕ) → filled b [] z i ks ds ≡ record { ran = Ok z; board = b; answers = ks; debts = ds }
 unfolding filled after_all all_answers debts zeros
-filled_none b z i ks ds = ap (λ (m : ℕ). record { ran = Zeros m; board = b; answers = ks; debts = ds }) (add-zero z)
+filled_none b z i ks ds = ap (λ (m : ℕ). record { ran = Ok m; board = b; answers = ks; debts = ds }) (add-zero z)
 
-pub filled_end : (steps : List StepRecord) (n : ℕ) (b : Board) (z i : ℕ) (ks ds : List ℕ) → n ≤ i → filled b (drop i (take n steps)) z i ks ds ≡ record { ran = Zeros z; board = b; answers = ks; debts = ds }
-filled_end steps n b z i ks ds l =
-    ap (λ (qs : List StepRecord). filled b qs z i ks ds) (drop_of_length-le (take n steps) {i = i} (omega (arith, length-take n steps))) ∙ filled_none b z i ks ds
+filled_end : (rs : List StepRecord) (b : Board) (z i : ℕ) (ks ds : List ℕ) → length rs ≤ i → filled b (drop i rs) z i ks ds ≡ record { ran = Ok z; board = b; answers = ks; debts = ds }
+filled_end rs b z i ks ds l = ap (λ (qs : List StepRecord). filled b qs z i ks ds) (drop_of_length-le rs {i = i} l) ∙ filled_none b z i ks ds
+
+-- ---- at the head of each turn of a loop over the steps rs: what is left from here gives the whole, and the board is sound
+pub record Turn (whole : Batch) (rs : List StepRecord) (b : Board) (z i : ℕ) (ks ds : List ℕ) : Type 0 where
+  pub few : z ≤ i
+  pub is_sound : sound b ≡ true
+  pub gives : filled b (drop i rs) z i ks ds ≡ whole
+
+counted : (t : Bool) → from_bool t ≡ one_if t
+counted true = refl
+counted false = refl
+
+ok_is_zero : (k : Result (Unit {0}) Refusal) → is_ok k ≡ eqb (number_of k) 0
+ok_is_zero (Ok x) = refl
+ok_is_zero (Err k) = sym (ne_eqb (number k) 0 (refused_above_zero k))
+
+module _ (whole : Batch) (rs : List StepRecord) (b : Board) (z i : ℕ) (ks ds : List ℕ) (turn : Turn whole rs b z i ks ds) where
+  -- the turn of the step at place i, with its answer and its debt stored, and counted as the code counts
+  pub turned : (c : Board) (k : Result (Unit {0}) Refusal) (j n : ℕ) → i < length rs → step b (get_or rs i no_step) ≡ record { answer = k; board = c } → j ≡ number_of k → n ≡ from_bool (is_ok k)
+      → Turn whole rs c (z + n) (i + 1) (set ks i j) (set ds i c.debt)
+  turned c k j n l e q f =
+      let g : n ≡ one_if (eqb (number_of k) 0) = f ∙ ap from_bool (ok_is_zero k) ∙ counted (eqb (number_of k) 0) in
+      record {
+        few = omega (arith, g, one_at_most (eqb (number_of k) 0), turn.few);
+        is_sound = subst (λ (o : Outcome). sound o.board ≡ true) e (sound_tested _ (step_keeps_sound b (get_or rs i no_step) (sound_claims b turn.is_sound)));
+        gives = (λ t. filled c (drop (i + 1) rs) (z + g t) (i + 1) (set ks i (q t)) (set ds i c.debt)) ∙ filled_turn rs b z i ks ds (record { answer = k; board = c }) l e ∙ turn.gives;
+      }
+
+  pub ended : length rs ≤ i → record { ran = Ok z; board = b; answers = ks; debts = ds } ≡ whole
+  ended l = sym (filled_end rs b z i ks ds l) ∙ turn.gives
 
 -- ---- the whole
 pub answers_length : (b : Board) (rs : List StepRecord) → length (answers b rs) ≡ length rs
@@ -88,52 +123,26 @@ noughts_padded ks l =
     ∙ ap (λ (n : ℕ). ks ++ drop n noughts) (zero-add (length ks))
     ∙ ap (λ (ys : List ℕ). ks ++ ys) (drop_replicate (length ks) batch_most)
 
--- a batch that is refused where the board is not sound
-abbrev pub unless_unsound : Bool → Batch → Batch
-unless_unsound t x = record { ran = cond t x.ran (Refused 30); board = x.board; answers = x.answers; debts = x.debts }
-
--- of a list no more than all
-pub take_within : {A : Type 0} (n : ℕ) (xs : List A) → take (min n (length xs)) xs ≡ take n xs
-take_within zero xs = ap (λ (k : ℕ). take k xs) (zero-min (length xs))
-take_within (suc n) [] = ap (λ (k : ℕ). take k []) (min-zero (suc n))
-take_within {A} (suc n) (x ∷ xs) = ap (λ (k : ℕ). take k (x ∷ xs)) (suc-min-suc n (length xs)) ∙ ap {B = List A} (λ ys. x ∷ ys) (take_within n xs)
-
--- how many of the steps are run
-abbrev batch_turns : Bool → ℕ → ℕ
-batch_turns t count = cond t (min count batch_most) 0
-
-pub turns_few : (t : Bool) (count : ℕ) → batch_turns t count ≤ batch_most
-turns_few true count = omega arith
-turns_few false count = omega arith
-
-pub turns_sound : (t : Bool) (count : ℕ) → 0 < batch_turns t count → t ≡ true
-turns_sound true count p = refl
-turns_sound false count p = absurd (omega arith)
+-- the steps that are asked for, of an array of as many as a batch can have
+pub asked_steps : (steps : List StepRecord) (count n : ℕ) → length steps ≡ batch_most → n ≡ min count batch_most → take n steps ≡ take count steps
+asked_steps steps count n all e = ap (λ (k : ℕ). take k steps) (e ∙ ap (min count) (sym all)) ∙ take_min count steps
 
 -- the definition of a batch, by the test of soundness
 abbrev batch_by : Bool → Board → List StepRecord → Batch
 batch_by t b rs =
-    cond t (record { ran = Zeros (zeros (answers b rs)); board = after b rs; answers = padded (answers b rs); debts = padded (debts b rs) })
-    (record { ran = Refused 30; board = b; answers = padded []; debts = padded [] })
+    cond t (record { ran = Ok (zeros (answers b rs)); board = after b rs; answers = padded (answers b rs); debts = padded (debts b rs) })
+    (record { ran = Err NotSound; board = b; answers = padded []; debts = padded [] })
 
-filled_sound : (b : Board) (rs : List StepRecord) → length rs ≤ batch_most → filled b rs 0 0 noughts noughts ≡ batch_by true b rs
-unfolding filled
-filled_sound b rs l =
+pub filled_batch : (b : Board) (rs : List StepRecord) → sound b ≡ true → length rs ≤ batch_most → filled b rs 0 0 noughts noughts ≡ batch b rs
+unfolding filled batch
+filled_batch b rs t l =
     let e : sets noughts 0 (answers b rs) ≡ padded (answers b rs) = noughts_padded (answers b rs) (omega (arith, answers_length b rs)) in
     let f : sets noughts 0 (debts b rs) ≡ padded (debts b rs) = noughts_padded (debts b rs) (omega (arith, debts_length b rs)) in
-    rw (e, f, zero-add)
+    rw (e, f, zero-add, t)
 
-pub filled_batch : (b : Board) (steps : List StepRecord) (count : ℕ) (t : Bool) (n : ℕ) → length steps ≡ batch_most → t ≡ sound b → n ≡ batch_turns t count → unless_unsound t (filled b (take n steps) 0 0 noughts noughts) ≡ batch b (take count steps)
+pub unsound_batch : (b : Board) (rs : List StepRecord) → sound b ≡ false → record { ran = Err NotSound; board = b; answers = noughts; debts = noughts } ≡ batch b rs
 unfolding batch
-filled_batch b steps count t n l e f = ap (λ (m : ℕ). unless_unsound t (filled b (take m steps) 0 0 noughts noughts)) f ∙ by_test t ∙ ap (λ (q : Bool). batch_by q b (take count steps)) e
-  where
-    -- all of them where count is larger
-    same_steps_lem : take (min count batch_most) steps ≡ take count steps
-    same_steps_lem = ap (λ (k : ℕ). take (min count k) steps) (sym l) ∙ take_within count steps
-
-    by_test : (q : Bool) → unless_unsound q (filled b (take (batch_turns q count) steps) 0 0 noughts noughts) ≡ batch_by q b (take count steps)
-    by_test true = ap (λ (rs : List StepRecord). filled b rs 0 0 noughts noughts) same_steps_lem ∙ filled_sound b (take count steps) (omega (arith, length-take count steps))
-    by_test false = ap (unless_unsound false) (filled_none b 0 0 noughts noughts)
+unsound_batch b rs t = rw t
 
 -- ---- the guarantee
 pub batch_carries : (b : Board) (rs : List StepRecord) (x : Batch) → x ≡ batch b rs → Carries b (taking (batch_steps b rs)) x.board

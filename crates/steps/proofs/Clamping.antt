@@ -2,6 +2,8 @@
 use mathlib.Core.Path.{◌≡◌, sym, ap, ◌∙◌}
 use Prim.Native.Nat.{ℕ, min, ◌≤◌}
 use native.Mathlib.Omega.{arith}
+use Rattle.refusals.specs.declared.Refusal.{Refusal}
+use Rattle.std.specs.Prelude.{Result, Err}
 use Rattle.rules.specs.Facts.{Claims, judge}
 use Rattle.rules.specs.Sheets.Sheet.{Sheet, unit_at, slot_at, parent_at}
 use Rattle.rules.specs.Sheets.Sound.{Sound}
@@ -12,14 +14,13 @@ use Rattle.rules.specs.declared.StepRecord.{StepRecord}
 use Rattle.rules.specs.declared.Action.{Action}
 use Rattle.rules.specs.declared.Action.TheVariants.{Unknown, Start, Send, Request as RequestStep, Deliver, Rest, Tick, Release, Move}
 use Rattle.rules.specs.declared.Effect.{Effect}
-use Rattle.rules.specs.declared.Effect.TheVariants.{Refused}
 use Rattle.rules.proofs.FactLaws.{asked, fact_shown}
 use Rattle.rules.proofs.Sheets.EntryLaws.{receiver_in_use}
 use Rattle.rules.proofs.JudgeLaws.{judge_same}
 use Rattle.rules.proofs.Sheets.Changes.{judged_applied}
 
 -- the rule on the records at a unit and a slot
-abbrev pub rule_at : Sheet → StepRecord → Action → ℕ → ℕ → Effect
+abbrev pub rule_at : Sheet → StepRecord → Action → ℕ → ℕ → Result Effect Refusal
 rule_at b r a u s = record_rule b.debt b.delay r (unit_at b u) (parent_at b u) (slot_at b s) (made_at b u) a
 
 module _ (b : Sheet) (h : Sound b) where
@@ -45,9 +46,9 @@ module _ (b : Sheet) (h : Sound b) where
         let e : unit_by r (slot_at b s).to a ≡ unit_of b r a = ap (λ (j : ℕ). unit_by r (slot_at b j).to a) (same_slot p) in
         omega (arith, within r a p, unit-at, e)
 
-    pub clamped_step : applied b a u s (judge Refused (places_on b r a) (rule_at b r a u s)) ≡ applied b a (unit_of b r a) (slot_of r a) (effect_by b r a)
+    pub clamped_step : applied b a u s (judge Err (places_on b r a) (rule_at b r a u s)) ≡ applied b a (unit_of b r a) (slot_of r a) (effect_by b r a)
     clamped_step =
         judged_applied b a u s (places_on b r a) (rule_at b r a u s)
-        ∙ judge_same (λ j. record { answer = j; sheet = b }) (places_on b r a) (applied b a u s (rule_at b r a u s)) (applied b a (unit_of b r a) (slot_of r a) (rule_at b r a (unit_of b r a) (slot_of r a)))
+        ∙ judge_same (λ j. record { answer = Err j; sheet = b }) (places_on b r a) (applied b a u s (rule_at b r a u s)) (applied b a (unit_of b r a) (slot_of r a) (rule_at b r a (unit_of b r a) (slot_of r a)))
         (λ p. ap (λ (i : ℕ). applied b a i s (rule_at b r a i s)) (same_unit p) ∙ ap (λ (j : ℕ). applied b a (unit_of b r a) j (rule_at b r a (unit_of b r a) j)) (same_slot p))
         ∙ sym (judged_applied b a (unit_of b r a) (slot_of r a) (places_on b r a) (rule_at b r a (unit_of b r a) (slot_of r a)))

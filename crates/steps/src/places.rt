@@ -2,81 +2,88 @@
 ghost use Rattle.std.specs.Prelude.{◌≡◌, [], ◌∷◌, min};
 ghost use Rattle.rules.specs.Facts.{check, below, judge};
 ghost use Rattle.rules.specs.Letters.{slot_of, unit_by, place_checks};
+ghost use Rattle.rules.specs.Boards.{view};
+ghost use Rattle.rules.specs.Sheets.Sheet.{slot_at};
 
-use rules::{Action, StepRecord};
+use refusals::Refusal;
+use rules::{Action, Board, StepRecord};
+
+// Indices of the unit and of the slot that a step may change.
+#[derive(Clone, Copy)]
+pub(crate) struct Places {
+    pub unit: usize,
+    pub slot: usize,
+}
 
 // The slot that a step may change.
-pub(crate) fn slot_of(r: StepRecord, a: Action) -> u16
+fn slot_of(r: StepRecord, a: Action) -> u16
     ensures { result ≡ slot_of r a }
 {
     match a {
-        Action::Unknown => 0,
-        Action::Start => 0,
-        Action::Send => r.slot,
-        Action::Request => r.slot,
-        Action::Deliver => r.slot,
-        Action::Rest => 0,
-        Action::Tick => 0,
-        Action::Release => r.slot,
-        Action::Move => 0,
+        Action::Send | Action::Request | Action::Deliver | Action::Release => r.slot,
+        Action::Unknown | Action::Start | Action::Rest | Action::Tick | Action::Move => 0,
     }
 }
 
 // The unit that a step may change: a delivery's is the receiver.
-pub(crate) fn unit_of(r: StepRecord, to: u16, a: Action) -> u16
+fn unit_of(r: StepRecord, to: u16, a: Action) -> u16
     ensures { result ≡ unit_by r to a }
 {
     match a {
         Action::Unknown => 0,
-        Action::Start => r.unit,
-        Action::Send => r.unit,
-        Action::Request => r.unit,
         Action::Deliver => to,
-        Action::Rest => r.unit,
-        Action::Tick => r.unit,
-        Action::Release => r.unit,
-        Action::Move => r.unit,
+        Action::Start
+        | Action::Send
+        | Action::Request
+        | Action::Rest
+        | Action::Tick
+        | Action::Release
+        | Action::Move => r.unit,
     }
 }
 
-// The number where i is not below its limit, else what comes next.
-fn checked(i: u16, limit: u16, number: u16, next: u16) -> u16
-    ensures { result ≡ judge (λ j. j) (check (below i limit) number ∷ []) next }
+impl Places {
+    // A place past the end is clamped, so that its record can be read and left as it was: its step is refused.
+    pub(crate) fn of(b: &Board, r: StepRecord, a: Action) -> Places
+        ensures slot { result.slot ≡ min (slot_of r a) 255 }
+        ensures unit { result.unit ≡ min (unit_by r (slot_at (view b.now) result.slot).to a) 63 }
+    {
+        let slot = usize::from(slot_of(r, a).min(255));
+        let unit = usize::from(unit_of(r, b.slots[slot].to, a).min(63));
+        Places { unit, slot }
+    }
+}
+
+// What i names is to be below its limit, or the refusal is this one.
+fn below(i: u16, limit: u16, by: Refusal) -> Result<(), Refusal>
+    ensures { result ≡ judge Err (check (below i limit) by ∷ []) (Ok tt) }
 {
     if i < limit {
-        return next;
+        return Ok(());
     }
-    number
+    Err(by)
 }
 
-// The head of each bracket: 0, or the number that refuses the unit, the slot or a move's parent, which is to be below the unit (M-108).
-pub(crate) fn place_refusal(n: u16, m: u16, r: StepRecord, a: Action) -> u16
-    ensures { result ≡ judge (λ j. j) (place_checks n m r a) 0 }
+// The head of each bracket: it refuses the unit, the slot or a move's parent, which is to be below the unit (M-108).
+pub(crate) fn in_use(n: u16, m: u16, r: StepRecord, a: Action) -> Result<(), Refusal>
+    ensures { result ≡ judge Err (place_checks n m r a) (Ok tt) }
 {
     match a {
-        Action::Unknown => 0,
-        Action::Start => checked(r.unit, n, 13, 0),
-        Action::Send => checked(
-            r.unit,
-            n,
-            13,
-            checked(r.other, n, 13, checked(r.slot, m, 14, 0)),
-        ),
-        Action::Request => checked(r.unit, n, 13, checked(r.slot, m, 14, 0)),
-        Action::Deliver => checked(r.slot, m, 14, 0),
-        Action::Rest => checked(r.unit, n, 13, 0),
-        Action::Tick => checked(r.unit, n, 13, 0),
-        Action::Release => checked(r.unit, n, 13, checked(r.slot, m, 14, 0)),
-        Action::Move => checked(r.unit, n, 13, checked(r.other, r.unit, 47, 0)),
+        Action::Unknown => Ok(()),
+        Action::Start | Action::Rest | Action::Tick => below(r.unit, n, Refusal::NoSuchUnit),
+        Action::Send => {
+            below(r.unit, n, Refusal::NoSuchUnit)?;
+            below(r.other, n, Refusal::NoSuchUnit)?;
+            below(r.slot, m, Refusal::NoSuchSlot)
+        }
+        Action::Request | Action::Release => {
+            below(r.unit, n, Refusal::NoSuchUnit)?;
+            below(r.slot, m, Refusal::NoSuchSlot)
+        }
+        Action::Deliver => below(r.slot, m, Refusal::NoSuchSlot),
+        Action::Move => {
+            below(r.unit, n, Refusal::NoSuchUnit)?;
+            below(r.other, r.unit, Refusal::ParentNotLower)
+        }
     }
-}
-
-// An index that an array has: a number past the end gives the last one.
-pub(crate) fn clamped(i: u16, last: u16) -> usize
-    ensures { result ≡ min i last }
-{
-    if i < last {
-        return i as usize;
-    }
-    last as usize
 }

@@ -1,57 +1,68 @@
 // A unit of weight 1 asks unit 0 for more: its request, the grant of it, the supply that comes back.
-ghost use Rattle.std.specs.Prelude.{◌≡◌, ◌+◌, ◌<◌, ◌≤◌, ◌^◌};
+ghost use Rattle.std.specs.Prelude.{◌≡◌, ◌+◌};
 ghost use Rattle.rules.specs.Facts.{judge};
-ghost use Rattle.rules.specs.Records.{grant, ceiling};
+ghost use Rattle.rules.specs.Records.{grant};
 ghost use Rattle.rules.specs.declared.Kind.TheVariants.{Request, Supply};
-ghost use Rattle.rules.specs.declared.Effect.TheVariants.{OnSlot, Refused};
+ghost use Rattle.rules.specs.declared.Effect.TheVariants.{OnSlot};
 ghost use Rattle.rules.specs.Effects.{message, request_checks, request_effect, grant_fits, supplied};
 
-use crate::made::message;
-use rules::{CEILING, Effect, GRANT, Kind, Slot, UnitRecord};
+use crate::found::Found;
+use refusals::Refusal;
+use rules::{CEILING, Effect, GRANT, Kind, Slot, StepRecord, UnitRecord};
 
-pub(crate) fn request(debt: u64, u: u16, x: UnitRecord, y: Slot) -> Effect
-    ensures { result ≡ judge Refused (request_checks x y) (request_effect debt u x) }
-{
-    let state = x.state;
-    let active = state.is_active();
-    let weight = x.weight;
-    let kind = y.kind;
-    let empty = kind.is_empty();
-    if !active {
-        return Effect::Refused(31);
+impl Found {
+    pub(crate) fn request(self, r: StepRecord) -> Result<Effect, Refusal>
+        ensures { result ≡ judge Err (request_checks self.unit self.slot) (Ok (request_effect self.debt r.unit self.unit)) }
+    {
+        if !self.unit.state.is_active() {
+            return Err(Refusal::NotActive);
+        }
+        if self.unit.suspended {
+            return Err(Refusal::Suspended);
+        }
+        if self.unit.weight > 1 {
+            return Err(Refusal::CanShare);
+        }
+        if !self.slot.kind.is_empty() {
+            return Err(Refusal::SlotFilled);
+        }
+        let asking = UnitRecord {
+            suspended: true,
+            ..self.unit
+        };
+        let request = Slot {
+            weight: 0,
+            from: r.unit,
+            to: 0,
+            kind: Kind::Request,
+        };
+        Ok(Effect::OnBoth(asking, request, self.debt))
     }
-    if x.suspended {
-        return Effect::Refused(32);
-    }
-    if weight > 1 {
-        return Effect::Refused(41);
-    }
-    if !empty {
-        return Effect::Refused(34);
-    }
-    let mut z = x;
-    z.suspended = true;
-    Effect::OnBoth(z, message(Kind::Request, u, 0, 0), debt)
-}
 
-// A request delivered: the slot becomes the supply to its sender, and the debt grows at once, not when the supply arrives.
-pub(crate) fn granted(debt: u64, u: u16) -> Effect
-    requires { debt ≤ ceiling }
-    ensures { result ≡ judge Refused (grant_fits debt Request) (OnSlot (message Supply 0 u grant) (debt + grant)) }
-{
-    if debt + GRANT > CEILING {
-        return Effect::Refused(36);
+    // A request delivered: the slot becomes the supply to its sender, and the debt grows at once, not when the supply arrives.
+    pub(crate) fn granted(self) -> Result<Effect, Refusal>
+        ensures { result ≡ judge Err (grant_fits self.debt Request) (Ok (OnSlot (message Supply 0 self.slot.from grant) (self.debt + grant))) }
+    {
+        if self.debt + GRANT > CEILING {
+            return Err(Refusal::PastCeiling);
+        }
+        let supply = Slot {
+            weight: GRANT,
+            from: 0,
+            to: self.slot.from,
+            kind: Kind::Supply,
+        };
+        Ok(Effect::OnSlot(supply, self.debt + GRANT))
     }
-    Effect::OnSlot(message(Kind::Supply, 0, u, GRANT), debt + GRANT)
-}
 
-// The receiver of a supply, whose suspension ends.
-pub(crate) fn supplied(x: UnitRecord, w: u64) -> UnitRecord
-    requires { x.weight + w < 2 ^ 64 }
-    ensures { result ≡ supplied x w }
-{
-    let mut z = x;
-    z.weight = x.weight + w;
-    z.suspended = false;
-    z
+    // The receiver of a supply, whose suspension ends.
+    pub(crate) fn supplied(self) -> UnitRecord
+        ensures { result ≡ supplied self.unit self.slot.weight }
+    {
+        UnitRecord {
+            weight: self.unit.weight + self.slot.weight,
+            suspended: false,
+            ..self.unit
+        }
+    }
 }

@@ -1,68 +1,64 @@
 // Weight goes back: a unit rests, waits for its countdown to end, and gives its weight to its parent.
-ghost use Rattle.std.specs.Prelude.{◌≡◌, ◌≤◌};
+ghost use Rattle.std.specs.Prelude.{◌≡◌};
 ghost use Rattle.rules.specs.Facts.{judge};
 ghost use Rattle.rules.specs.Effects.{rest_checks, rest_effect, tick_checks, tick_effect, release_checks, release_effect};
-ghost use Rattle.rules.specs.declared.Effect.TheVariants.{Refused};
 
-use crate::made::{blank_unit, message, waiting_with};
-use rules::{Effect, Kind, Slot, UnitRecord};
+use crate::found::Found;
+use crate::made::waiting_with;
+use refusals::Refusal;
+use rules::{BLANK_UNIT, Effect, Kind, Slot, StepRecord, UnitRecord};
 
-// A suspended unit does not rest: its supply could arrive after the end.
-pub(crate) fn rest(debt: u64, delay: u16, u: u16, x: UnitRecord) -> Effect
-    requires { x.weight ≤ debt }
-    ensures { result ≡ judge Refused (rest_checks x) (rest_effect debt delay u x) }
-{
-    let state = x.state;
-    let active = state.is_active();
-    if !active {
-        return Effect::Refused(31);
+impl Found {
+    // A suspended unit does not rest: its supply could arrive after the end.
+    pub(crate) fn rest(self, r: StepRecord) -> Result<Effect, Refusal>
+        ensures { result ≡ judge Err (rest_checks self.unit) (Ok (rest_effect self.debt self.delay r.unit self.unit)) }
+    {
+        if !self.unit.state.is_active() {
+            return Err(Refusal::NotActive);
+        }
+        if self.unit.suspended {
+            return Err(Refusal::Suspended);
+        }
+        if r.unit == 0 {
+            return Ok(Effect::OnUnit(BLANK_UNIT, self.debt - self.unit.weight));
+        }
+        Ok(Effect::OnUnit(waiting_with(self.unit.weight, self.delay), self.debt))
     }
-    if x.suspended {
-        return Effect::Refused(32);
-    }
-    if u == 0 {
-        return Effect::OnUnit(blank_unit(), debt - x.weight);
-    }
-    Effect::OnUnit(waiting_with(x.weight, delay), debt)
-}
 
-pub(crate) fn tick(debt: u64, x: UnitRecord) -> Effect
-    ensures { result ≡ judge Refused (tick_checks x) (tick_effect debt x) }
-{
-    let state = x.state;
-    let waiting = state.is_waiting();
-    let countdown = x.countdown;
-    if !waiting {
-        return Effect::Refused(38);
+    pub(crate) fn tick(self) -> Result<Effect, Refusal>
+        ensures { result ≡ judge Err (tick_checks self.unit) (Ok (tick_effect self.debt self.unit)) }
+    {
+        if !self.unit.state.is_waiting() {
+            return Err(Refusal::NotWaiting);
+        }
+        if self.unit.countdown < 1 {
+            return Err(Refusal::CountdownOver);
+        }
+        let later = UnitRecord {
+            countdown: self.unit.countdown - 1,
+            ..self.unit
+        };
+        Ok(Effect::OnUnit(later, self.debt))
     }
-    if countdown < 1 {
-        return Effect::Refused(39);
-    }
-    let mut z = x;
-    z.countdown = countdown - 1;
-    Effect::OnUnit(z, debt)
-}
 
-pub(crate) fn release(debt: u64, u: u16, parent: u16, x: UnitRecord, y: Slot) -> Effect
-    ensures { result ≡ judge Refused (release_checks x y) (release_effect debt u parent x) }
-{
-    let state = x.state;
-    let waiting = state.is_waiting();
-    let kind = y.kind;
-    let empty = kind.is_empty();
-    let countdown = x.countdown;
-    if !waiting {
-        return Effect::Refused(38);
+    pub(crate) fn release(self, r: StepRecord) -> Result<Effect, Refusal>
+        ensures { result ≡ judge Err (release_checks self.unit self.slot) (Ok (release_effect self.debt r.unit self.parent self.unit)) }
+    {
+        if !self.unit.state.is_waiting() {
+            return Err(Refusal::NotWaiting);
+        }
+        if self.unit.countdown != 0 {
+            return Err(Refusal::CountdownRuns);
+        }
+        if !self.slot.kind.is_empty() {
+            return Err(Refusal::SlotFilled);
+        }
+        let back = Slot {
+            weight: self.unit.weight,
+            from: r.unit,
+            to: self.parent,
+            kind: Kind::Return,
+        };
+        Ok(Effect::OnBoth(BLANK_UNIT, back, self.debt))
     }
-    if countdown != 0 {
-        return Effect::Refused(40);
-    }
-    if !empty {
-        return Effect::Refused(34);
-    }
-    Effect::OnBoth(
-        blank_unit(),
-        message(Kind::Return, u, parent, x.weight),
-        debt,
-    )
 }

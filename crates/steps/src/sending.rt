@@ -2,55 +2,54 @@
 ghost use Rattle.std.specs.Prelude.{◌≡◌};
 ghost use Rattle.rules.specs.Facts.{judge};
 ghost use Rattle.rules.specs.Effects.{start_checks, start_effect, send_checks, send_effect};
-ghost use Rattle.rules.specs.declared.Effect.TheVariants.{Refused};
 
-use crate::made::message;
-use rules::{Effect, FULL, GRANT, Kind, Slot, State, UnitRecord};
+use crate::found::Found;
+use refusals::Refusal;
+use rules::{BLANK_UNIT, Effect, FULL, GRANT, Kind, Slot, State, StepRecord, UnitRecord};
 
-pub(crate) fn start(debt: u64, made: u32) -> Effect
-    ensures { result ≡ judge Refused (start_checks debt made) start_effect }
-{
-    if debt != 0 {
-        return Effect::Refused(37);
-    }
-    if made >= FULL {
-        return Effect::Refused(44);
-    }
-    Effect::OnUnit(
-        UnitRecord {
+impl Found {
+    pub(crate) fn start(self) -> Result<Effect, Refusal>
+        ensures { result ≡ judge Err (start_checks self.debt self.counts.created) (Ok start_effect) }
+    {
+        if self.debt != 0 {
+            return Err(Refusal::DebtLeft);
+        }
+        if self.counts.created >= FULL {
+            return Err(Refusal::CountFull);
+        }
+        let started = UnitRecord {
             weight: GRANT,
-            countdown: 0,
             state: State::Active,
-            suspended: false,
-        },
-        GRANT,
-    )
-}
+            ..BLANK_UNIT
+        };
+        Ok(Effect::OnUnit(started, GRANT))
+    }
 
-pub(crate) fn send(debt: u64, u: u16, v: u16, x: UnitRecord, y: Slot, made: u32) -> Effect
-    ensures { result ≡ judge Refused (send_checks x y made) (send_effect debt u v x) }
-{
-    let state = x.state;
-    let active = state.is_active();
-    let kind = y.kind;
-    let empty = kind.is_empty();
-    let weight = x.weight;
-    if !active {
-        return Effect::Refused(31);
+    pub(crate) fn send(self, r: StepRecord) -> Result<Effect, Refusal>
+        ensures { result ≡ judge Err (send_checks self.unit self.slot self.counts.created) (Ok (send_effect self.debt r.unit r.other self.unit)) }
+    {
+        if !self.unit.state.is_active() {
+            return Err(Refusal::NotActive);
+        }
+        if self.unit.suspended {
+            return Err(Refusal::Suspended);
+        }
+        if self.unit.weight < 2 {
+            return Err(Refusal::TooLight);
+        }
+        if !self.slot.kind.is_empty() {
+            return Err(Refusal::SlotFilled);
+        }
+        if self.counts.created >= FULL {
+            return Err(Refusal::CountFull);
+        }
+        let shared = self.unit.share();
+        let work = Slot {
+            weight: shared.given,
+            from: r.unit,
+            to: r.other,
+            kind: Kind::Work,
+        };
+        Ok(Effect::OnBoth(shared.unit, work, self.debt))
     }
-    if x.suspended {
-        return Effect::Refused(32);
-    }
-    if weight < 2 {
-        return Effect::Refused(33);
-    }
-    if !empty {
-        return Effect::Refused(34);
-    }
-    if made >= FULL {
-        return Effect::Refused(44);
-    }
-    let s = x.share();
-    let kept = s.unit;
-    Effect::OnBoth(kept, message(Kind::Work, u, v, s.given), debt)
 }

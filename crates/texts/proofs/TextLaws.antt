@@ -1,13 +1,15 @@
 -- Texts stored one behind the other, and how long a line is.
-use mathlib.Core.Path.{◌≡◌, ap, ◌∙◌}
+use mathlib.Core.Path.{◌≡◌, refl, ap, ◌∙◌}
 use mathlib.Core.List.{List, [], ◌∷◌, ◌++◌, append_assoc}
 use Prim.Native.Nat.{ℕ, ◌+◌, ◌≤◌}
 use native.Mathlib.Omega.{arith}
 use lib.ListN.{length, length-append}
 use lib.Seq.{sets, length-sets}
-use Rattle.placing.specs.Placing.{written}
+use Rattle.std.specs.Prelude.{Result, IsOk}
+use Rattle.refusals.specs.declared.Refusal.{Refusal}
+use Rattle.placing.specs.Placing.{wrote, written}
 use Rattle.placing.proofs.Stores.{sets_append}
-use Rattle.placing.proofs.WriteLaws.{written_fits}
+use Rattle.placing.proofs.WriteLaws.{wrote_fits, written_fits}
 use Rattle.decimal.specs.Spelling.{spelled, digit_count}
 use Rattle.decimal.proofs.SpellLaws.{spelled_length}
 use Rattle.fields.specs.Fields.{tab}
@@ -17,6 +19,10 @@ use Rattle.texts.specs.Texts.{line_with}
 pub stored_then : (a b : List ℕ) (at to : ℕ) (out : List ℕ) {left last : List ℕ} → to ≡ at + length a → left ≡ sets out at a → last ≡ sets left to b → last ≡ sets out at (a ++ b)
 stored_then a b at to out {left} p e f =
     f ∙ ap (λ (l : List ℕ). sets l to b) e ∙ ap (λ (i : ℕ). sets (sets out at a) i b) p ∙ sets_append out at a b
+
+-- a writer whose text fits is not refused
+pub has_room : (text : List ℕ) (at : ℕ) (out left : List ℕ) {r : Result ℕ Refusal} → r ≡ wrote text at left → length left ≡ length out → at + length text ≤ length out → IsOk r
+has_room text at out left e l h = rw (e ∙ wrote_fits text at left (omega (arith, l, h))) refl
 
 -- a writer's text that fits is stored
 pub written_then_fits : (a b : List ℕ) (at to : ℕ) (out : List ℕ) {left last : List ℕ} → to ≡ at + length a → to + length b ≤ length out → left ≡ sets out at a → last ≡ written b to left

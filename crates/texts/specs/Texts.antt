@@ -1,9 +1,11 @@
 -- The texts of a listing: its heading and its lines, each ended by byte 10.
-use Rattle.std.specs.Prelude.{List, [], ◌∷◌, ◌++◌, ℕ}
+use Rattle.std.specs.Prelude.{List, [], ◌∷◌, ◌++◌, ℕ, Result, Ok, Err}
+use Rattle.refusals.specs.declared.Refusal.{Refusal}
+use Rattle.refusals.specs.Numbers.{number}
 use Rattle.rules.specs.Finished.{verdict}
 use Rattle.rules.specs.declared.Board.{Board}
 use Rattle.rules.specs.declared.Verdict.{Verdict}
-use Rattle.rules.specs.declared.Verdict.TheVariants.{Working, Finished, Refused}
+use Rattle.rules.specs.declared.Verdict.TheVariants.{Working, Finished}
 use Rattle.decimal.specs.Spelling.{spelled}
 use Rattle.fields.specs.Fields.{tab}
 
@@ -21,16 +23,16 @@ working_word = 119 ∷ 111 ∷ 114 ∷ 107 ∷ 105 ∷ 110 ∷ 103 ∷ []
 abbrev pub refused_word : List ℕ
 refused_word = 114 ∷ 101 ∷ 102 ∷ 117 ∷ 115 ∷ 101 ∷ 100 ∷ []
 
-abbrev pub state_word : Verdict → List ℕ
-state_word Working = working_word
-state_word Finished = finished_word
-state_word (Refused k) = refused_word
+abbrev pub state_word : Result Verdict Refusal → List ℕ
+state_word (Ok Working) = working_word
+state_word (Ok Finished) = finished_word
+state_word (Err k) = refused_word
 
 -- script line, answer, debt and a word, parted by tabs
 unfoldable pub line_with : ℕ → ℕ → ℕ → List ℕ → List ℕ
 line_with n k debt word = spelled n ++ ((tab ∷ spelled k) ++ ((tab ∷ spelled debt) ++ (tab ∷ word ++ 10 ∷ [])))
 
-abbrev pub line_text : ℕ → ℕ → ℕ → Verdict → List ℕ
+abbrev pub line_text : ℕ → ℕ → ℕ → Result Verdict Refusal → List ℕ
 line_text n k debt v = line_with n k debt (state_word v)
 
 -- a listing line: the board is the one after the script line
@@ -38,5 +40,5 @@ abbrev pub board_text : ℕ → ℕ → Board → List ℕ
 board_text n k b = line_text n k b.debt (verdict b)
 
 -- the line of a script whose first line is refused, or that is too long: 0, the number, 0 and the word refused
-abbrev pub refused_text : ℕ → List ℕ
-refused_text k = line_text 0 k 0 (Refused k)
+abbrev pub refused_text : Refusal → List ℕ
+refused_text k = line_text 0 (number k) 0 (Err k)

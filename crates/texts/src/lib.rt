@@ -8,7 +8,8 @@ ghost use Rattle.fields.specs.Fields.{tab};
 ghost use Rattle.texts.specs.Texts.{heading, line_with, line_text};
 
 use decimal::{digit_count, put_number, put_tabbed_number};
-use placing::{Wrote, put_bytes};
+use placing::{put_bytes, room_for};
+use refusals::Refusal;
 use rules::Verdict;
 
 const HEADING: [u8; 23] = *b"step\tanswer\tdebt\tstate\n";
@@ -18,14 +19,20 @@ fn put_last_word(word: &[u8], out: &mut [u8], at: usize)
     requires { at + (length word.now + 2) ≤ length out.old }
     ensures { out.new ≡ sets out.old at (tab ∷ word.now ++ 10 ∷ []) }
 {
-    put_bytes(b"\t", out, at);
-    put_bytes(word, out, at + 1);
-    put_bytes(b"\n", out, at + 1 + word.len());
+    put_bytes(b"\t", out, at).unwrap();
+    put_bytes(word, out, at + 1).unwrap();
+    put_bytes(b"\n", out, at + 1 + word.len()).unwrap();
 }
 
-// The line at the start of what is lent. Its length is known before its first byte is written.
+// The line at the start of what is lent. Its length is known before its first byte is written, so each of its parts has room.
 #[tactic(auto, using(decimal::proofs::CountLaws::count_most))]
-fn line_in(number: u64, answer: u64, debt: u64, word: &[u8], out: &mut [u8]) -> Wrote
+fn line_in(
+    number: u64,
+    answer: u64,
+    debt: u64,
+    word: &[u8],
+    out: &mut [u8],
+) -> Result<usize, Refusal>
     requires { length word.now ≤ 8 }
     ensures { Writes (line_with number answer debt word.now) 0 out.old result out.new }
 {
@@ -33,24 +40,28 @@ fn line_in(number: u64, answer: u64, debt: u64, word: &[u8], out: &mut [u8]) -> 
     let second = first + 1 + digit_count(answer);
     let third = second + 1 + digit_count(debt);
     let n = third + word.len() + 2;
-    if out.len() < n {
-        return Wrote::Refused(27);
-    }
-    put_number(number, out, 0);
-    put_tabbed_number(answer, out, first);
-    put_tabbed_number(debt, out, second);
+    room_for(n, out, 0)?;
+    put_number(number, out, 0).unwrap();
+    put_tabbed_number(answer, out, first).unwrap();
+    put_tabbed_number(debt, out, second).unwrap();
     put_last_word(word, out, third);
-    Wrote::Count(n)
+    Ok(n)
 }
 
 // The line with the word for its state.
-fn state_line(number: u64, answer: u64, debt: u64, state: Verdict, out: &mut [u8]) -> Wrote
+fn state_line(
+    number: u64,
+    answer: u64,
+    debt: u64,
+    state: Result<Verdict, Refusal>,
+    out: &mut [u8],
+) -> Result<usize, Refusal>
     ensures { Writes (line_text number answer debt state) 0 out.old result out.new }
 {
     match state {
-        Verdict::Working => line_in(number, answer, debt, b"working", out),
-        Verdict::Finished => line_in(number, answer, debt, b"finished", out),
-        Verdict::Refused(_) => line_in(number, answer, debt, b"refused", out),
+        Ok(Verdict::Working) => line_in(number, answer, debt, b"working", out),
+        Ok(Verdict::Finished) => line_in(number, answer, debt, b"finished", out),
+        Err(_) => line_in(number, answer, debt, b"refused", out),
     }
 }
 
@@ -59,20 +70,20 @@ pub fn write_line(
     number: u64,
     answer: u64,
     debt: u64,
-    state: Verdict,
+    state: Result<Verdict, Refusal>,
     out: &mut [u8],
     at: usize,
-) -> Wrote
+) -> Result<usize, Refusal>
     ensures { Writes (line_text number answer debt state) at out.old result out.new }
 {
     if at > out.len() {
-        return Wrote::Refused(27);
+        return Err(Refusal::NoRoom);
     }
     state_line(number, answer, debt, state, &mut out[at..])
 }
 
 // The heading at a place.
-pub fn write_heading(out: &mut [u8], at: usize) -> Wrote
+pub fn write_heading(out: &mut [u8], at: usize) -> Result<usize, Refusal>
     ensures { Writes heading at out.old result out.new }
 {
     put_bytes(&HEADING, out, at)

@@ -1,62 +1,52 @@
 -- The parents of an opening: whether each is below its unit, and how they are placed one by one among a board's entries.
 use mathlib.Core.Path.{◌≡◌, refl, sym, ap, ◌∙◌}
-use mathlib.Core.Bool.{true, false, cond}
+use mathlib.Core.Bool.{true, cond, ◌&&◌}
 use mathlib.Core.List.{List, [], ◌∷◌, ◌++◌}
 use Prim.Native.Nat.{ℕ, zero, suc, ◌+◌, ◌-◌, ◌≤◌, ◌<◌}
 use native.Mathlib.Nat.{le_of_suc-le-suc, not-suc-le-zero}
 use native.Mathlib.Numerals.{add-one}
 use native.Mathlib.Omega.{arith}
-use lib.ListN.{length, get_or, take, set, replicate}
+use lib.ListN.{length, drop, replicate}
 use lib.Seq.{take-length}
-use lib.Dec.{eqb}
-use borrow.Author.Tests.{ne_eqb}
-use Rattle.rules.specs.Facts.{Fact, below}
+use lib.Dec.{eqb, leb}
+use Rattle.rules.specs.declared.Outcome.{Outcome}
+use Rattle.refusals.specs.declared.Refusal.{Refusal}
+use Rattle.std.specs.Prelude.{Ok, Err}
+use Rattle.std.proofs.lemmas.Bool.Decides.{nat_tests}
+use Rattle.std.proofs.lemmas.List.{drop-replicate}
+use Rattle.std.specs.List.{list_all, enumerate_from}
+use Rattle.rules.specs.Facts.{below, each}
 use Rattle.rules.specs.Opening.{lower_parents, opening_checks, fresh, opening, refused_by}
 use Rattle.rules.proofs.FactLaws.{each_at, each_of, each_claims, each_tested, judge_passed}
 use Rattle.board.proofs.TestLaws.{not_true_false}
-use Rattle.rules.proofs.JudgeLaws.{refusal_number, Numbered, judge_by_number, number_claims}
+use Rattle.rules.proofs.JudgeLaws.{checks_answer, answered, judge_by_answer, answer_claims}
 
--- the row of `lower_parents`
-abbrev lower : ℕ → ℕ → List Fact
-lower i p = below p (suc i) ∷ []
+same_test : (p n m : ℕ) → m ≡ n + 0 → leb p n ≡ (leb (suc p) (suc m) && true)
+same_test p n m e = grind (arith, nat_tests)
 
-pub not_lower : (ps : List ℕ) (i : ℕ) → i < length ps → i < get_or ps i 0 → false ≡ lower_parents ps
+-- as `all` answers, from unit n + 1 on
+lower_from : (n : ℕ) (unit : ℕ → ℕ) (ps : List ℕ) → ((i : ℕ) → unit i ≡ n + i) → list_all (λ (p : ℕ × ℕ). leb p.1 p.0) (enumerate_from n ps) ≡ each (λ i p. below p (suc (unit i)) ∷ []) ps
+unfolding each
+lower_from n unit [] e = refl
+lower_from n unit (p ∷ ps) e =
+    let here : leb p n ≡ (leb (suc p) (suc (unit 0)) && true) = same_test p n (unit 0) (e 0) in
+    λ j. here j && lower_from (n + 1) (λ i. unit (suc i)) ps (λ i. omega (arith, e (suc i))) j
+
+pub lower_all : (ps : List ℕ) → list_all (λ (p : ℕ × ℕ). leb p.1 p.0) (enumerate_from 0 ps) ≡ lower_parents ps
 unfolding lower_parents
-not_lower ps i l h = not_true_false (lower_parents ps) (λ e. omega (arith, each_at lower ps i 0 l (each_claims lower ps e)))
+lower_all ps = lower_from 0 (λ i. i) ps (λ i. omega arith)
 
-pub all_lower : (ps : List ℕ) → ((k : ℕ) → k < length ps → get_or ps k 0 ≤ k) → true ≡ lower_parents ps
-unfolding lower_parents
-all_lower ps h = sym (each_tested lower ps (each_of lower ps 0 (λ k l. omega (arith, h k l))))
+-- the entries once the parents are copied into zeros
+pub placed : (ps now : List ℕ) (k : ℕ) → now ≡ ps → k ≡ length ps → 0 ∷ now ++ drop k (replicate 63 0) ≡ 0 ∷ ps ++ replicate (63 - length ps) 0
+placed ps now k e l = rw (e, l) (ap (λ (zeros : List ℕ). 0 ∷ ps ++ zeros) (drop-replicate (length ps) 63 0))
 
--- the entries once i parents are placed
-abbrev pub placed : List ℕ → ℕ → List ℕ
-placed ps i = 0 ∷ take i ps ++ replicate (63 - i) 0
-
-set_next : (ps : List ℕ) (i k : ℕ) → i < length ps → set (take i ps ++ replicate (suc k) 0) i (get_or ps i 0) ≡ take (suc i) ps ++ replicate k 0
-set_next [] i k l = absurd (not-suc-le-zero l)
-set_next (p ∷ ps) zero k l = refl
-set_next (p ∷ ps) (suc i) k l = ap (λ (r : List ℕ). p ∷ r) (set_next ps i k (le_of_suc-le-suc l))
-
-pub place_next : (ps : List ℕ) (i : ℕ) → i < length ps → length ps ≤ 63 → set (placed ps i) (i + 1) (get_or ps i 0) ≡ placed ps (i + 1)
-place_next ps i l m =
-    let here : 63 - i ≡ suc (63 - suc i) = omega arith in
-    rw (add-one, here) (ap (λ (r : List ℕ). 0 ∷ r) (set_next ps i (63 - suc i) l))
-
-pub all_placed : (ps : List ℕ) (i : ℕ) → i ≡ length ps → placed ps i ≡ 0 ∷ ps ++ replicate (63 - length ps) 0
-all_placed ps i e = rw e (ap (λ (r : List ℕ). 0 ∷ r ++ replicate (63 - length ps) 0) (take-length ps))
-
--- ---- the judgement of an opening by its number
-opening_numbered : (m d : ℕ) (ps : List ℕ) → Numbered (opening_checks m d ps)
-opening_numbered m d ps = omega arith
-
--- what an opening hands back with the answer k
-pub opening_accepted : (m d : ℕ) (ps : List ℕ) → refusal_number (opening_checks m d ps) ≡ 0 → opening m d ps ≡ record { answer = 0; board = fresh m d ps }
+-- ---- the judgement of an opening by what its checks answer
+pub opening_accepted : (m d : ℕ) (ps : List ℕ) → checks_answer (opening_checks m d ps) ≡ Ok tt → opening m d ps ≡ record { answer = Ok tt; board = fresh m d ps }
 unfolding opening
-opening_accepted m d ps e = judge_passed refused_by (opening_checks m d ps) (record { answer = 0; board = fresh m d ps }) (number_claims (opening_checks m d ps) (opening_numbered m d ps) e)
+opening_accepted m d ps e = judge_passed refused_by (opening_checks m d ps) (record { answer = Ok tt; board = fresh m d ps }) (answer_claims (opening_checks m d ps) e)
 
-pub not_opened : (m d k : ℕ) (ps : List ℕ) → refusal_number (opening_checks m d ps) ≡ k → (k ≡ 0 → ⊥) → opening m d ps ≡ refused_by k
+pub not_opened : (m d : ℕ) (k : Refusal) (ps : List ℕ) → checks_answer (opening_checks m d ps) ≡ Err k → opening m d ps ≡ refused_by k
 unfolding opening
-not_opened m d k ps e h = judge_by_number refused_by (opening_checks m d ps) (record { answer = 0; board = fresh m d ps }) (opening_numbered m d ps) ∙ by_number (refusal_number (opening_checks m d ps)) e
-  where
-    by_number : (j : ℕ) → j ≡ k → cond (eqb j 0) (record { answer = 0; board = fresh m d ps }) (refused_by j) ≡ refused_by k
-    by_number j q = rw (q, ne_eqb k 0 h)
+not_opened m d k ps e =
+    let opened : Outcome = record { answer = Ok tt; board = fresh m d ps } in
+    judge_by_answer refused_by (opening_checks m d ps) opened ∙ ap (answered refused_by opened) e

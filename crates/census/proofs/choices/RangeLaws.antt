@@ -5,37 +5,36 @@ use Prim.Native.Nat.{ℕ, zero, suc, ◌*◌, ◌/◌, ◌%◌, ◌<◌}
 use native.Mathlib.Nat.{mul-zero, mod-lt, mod-one, div-one, div-add-mod', div-lt_iff_lt-mul}
 use native.Mathlib.Omega.{arith}
 use lib.ListN.{length, get_or}
+use Rattle.std.specs.List.{range_with_len}
+use Rattle.std.proofs.lemmas.List.FromFn.{length-range_with_len, get_or-range_with_len}
 use Rattle.rules.specs.declared.StepRecord.{StepRecord}
-use Rattle.census.specs.Choices.{numbers_from, for_each, steps_in}
+use Rattle.census.specs.Choices.{range_size, for_each, steps_in}
 use Rattle.steps.specs.NoStep.{no_step}
-use Rattle.census.proofs.ForEachLaws.{length_numbers, number_at, length_for_each, for_each_at}
-
-abbrev pub range_size : StepRecord → ℕ
-range_size c = c.unit * (c.other * c.slot)
+use Rattle.census.proofs.ForEachLaws.{length_for_each, for_each_at}
 
 -- lists of one length w, one for each number below k: their length, and an element by division
-numbered_length : {B : Type 0} (w k : ℕ) (f : ℕ → List B) → ((x : ℕ) → length (f x) ≡ w) → length (for_each (numbers_from 0 k) f) ≡ k * w
-numbered_length w k f e = length_for_each w (numbers_from 0 k) f e ∙ ap (λ (x : ℕ). x * w) (length_numbers 0 k)
+numbered_length : {B : Type 0} (w k : ℕ) (f : ℕ → List B) → ((x : ℕ) → length (f x) ≡ w) → length (for_each (range_with_len 0 k) f) ≡ k * w
+numbered_length w k f e = length_for_each w (range_with_len 0 k) f e ∙ ap (λ (x : ℕ). x * w) (length-range_with_len 0 k)
 
 -- a factor of a product above a number is not 0
 pub factor_above : (i k w : ℕ) → i < k * w → 0 < w
 factor_above i k zero l = absurd (omega (arith, l, mul-zero k))
 factor_above i k (suc w) l = omega arith
 
-numbered_at : {B : Type 0} (w k : ℕ) (f : ℕ → List B) → ((x : ℕ) → length (f x) ≡ w) → (i : ℕ) (d : B) → i < k * w → get_or (for_each (numbers_from 0 k) f) i d ≡ get_or (f (i / w)) (i % w) d
+numbered_at : {B : Type 0} (w k : ℕ) (f : ℕ → List B) → ((x : ℕ) → length (f x) ≡ w) → (i : ℕ) (d : B) → i < k * w → get_or (for_each (range_with_len 0 k) f) i d ≡ get_or (f (i / w)) (i % w) d
 numbered_at w k f e i d l =
     let w-above : 0 < w = factor_above i k w l in
     let within : i / w < k = (div-lt_iff_lt-mul w-above).1 l in
-    ap (λ (x : ℕ). get_or (for_each (numbers_from 0 k) f) x d) (sym (div-add-mod' i w))
-    ∙ for_each_at w (numbers_from 0 k) f e (i / w) (i % w) 0 d (omega (arith, within, length_numbers 0 k)) (mod-lt i w-above)
-    ∙ ap (λ (x : ℕ). get_or (f x) (i % w) d) (number_at 0 k (i / w) within ∙ omega arith)
+    ap (λ (x : ℕ). get_or (for_each (range_with_len 0 k) f) x d) (sym (div-add-mod' i w))
+    ∙ for_each_at w (range_with_len 0 k) f e (i / w) (i % w) 0 d (omega (arith, within, length-range_with_len 0 k)) (mod-lt i w-above)
+    ∙ ap (λ (x : ℕ). get_or (f x) (i % w) d) (get_or-range_with_len 0 k (i / w) 0 within ∙ omega arith)
 
 -- the steps of one unit and one other, and those of one unit
 abbrev for_pair : StepRecord → ℕ → ℕ → List StepRecord
-for_pair c u v = for_each (numbers_from 0 c.slot) (λ s. record { kind = c.kind; unit = u; other = v; slot = s } ∷ [])
+for_pair c u v = for_each (range_with_len 0 c.slot) (λ s. record { kind = c.kind; unit = u; other = v; slot = s } ∷ [])
 
 abbrev for_unit : StepRecord → ℕ → List StepRecord
-for_unit c u = for_each (numbers_from 0 c.other) (for_pair c u)
+for_unit c u = for_each (range_with_len 0 c.other) (for_pair c u)
 
 pair_length : (c : StepRecord) (u v : ℕ) → length (for_pair c u v) ≡ c.slot
 pair_length c u v = numbered_length 1 c.slot _ (λ s. refl) ∙ omega arith

@@ -2,12 +2,13 @@
 use mathlib.Core.Path.{◌≡◌, refl, sym, ap, subst, ◌∙◌}
 use mathlib.Core.Bool.{Bool}
 use mathlib.Core.List.{List}
-use Prim.Native.Nat.{ℕ, suc, ◌+◌, ◌*◌, ◌≤◌, ◌<◌}
+use Prim.Native.Nat.{ℕ, suc, min, ◌+◌, ◌*◌, ◌≤◌, ◌<◌}
 use native.Mathlib.Nat.{mul-le-mul, mul-le-mul_right, pow-le-pow_left, pow-le-pow_right}
 use native.Mathlib.Omega.{arith}
-use lib.ListN.{length, get_or, take}
+use lib.ListN.{length, get_or, take, length-take}
 use lib.Seq.{get_or-take, take-length}
 use borrow.Author.Tests.{eq-eqb, ne_eqb}
+use Rattle.refusals.specs.Numbers.{number_of}
 use Rattle.rules.specs.Facts.{sum_of}
 use Rattle.rules.specs.Runs.{batch_most, padded}
 use Rattle.rules.specs.Sound.{Sound}
@@ -28,12 +29,15 @@ use Rattle.census.specs.declared.Ends.{Ends}
 use Rattle.census.proofs.ChoiceLaws.{choices_number}
 use Rattle.census.proofs.EndingLaws.{choices_on, same_sizes, accepted_choice, refused_choice, counts_recur, ending_most}
 
--- what `plus` and `combined` give
+-- what `plus` and `times` give, and both
 abbrev pub plus_of : Ends → Ends → Ends
 plus_of e f = record { finished = e.finished + f.finished; busy = e.busy + f.busy; other = e.other + f.other }
 
+abbrev pub times_of : ℕ → Ends → Ends
+times_of k e = record { finished = k * e.finished; busy = k * e.busy; other = k * e.other }
+
 abbrev pub combined_of : ℕ → Ends → Ends → Ends
-combined_of k e f = record { finished = k * e.finished + f.finished; busy = k * e.busy + f.busy; other = k * e.other + f.other }
+combined_of k e f = plus_of (times_of k e) f
 
 -- counts that have 32 bits
 abbrev pub Fits32 : Ends → Type 0
@@ -54,31 +58,29 @@ count_most is b k p q l =
 -- ---- before the loop: the choices are listed, and what each would answer
 pub record Listed (b : Board) (count : ℕ) (cs : List StepRecord) (ks : List ℕ) : Type 0 where
   pub small : (b.n ≤ 3) × (b.m ≤ 2)
-  pub number : count ≡ choice_number b.n b.m
-  pub choices : take (choice_number b.n b.m) cs ≡ choices_on b
-  pub long : length cs ≡ batch_most
+  pub choices : take count cs ≡ choices_on b
+  pub long : length ks ≡ batch_most
   pub answers : ks ≡ padded (answers_on b (take count cs))
 
 -- in a turn a choice is left
-pub listed_within : {b : Board} {count i : ℕ} {cs : List StepRecord} {ks : List ℕ} → Listed b count cs ks → i < count → i < length (choices_on b)
-unfolding ChoicesNumber
-listed_within {b} h l = omega (arith, l, h.number, choices_number b.n b.m)
+pub listed_within : {b : Board} {count i : ℕ} {cs : List StepRecord} {ks : List ℕ} → Listed b count cs ks → i < length (take count cs) → i < length (choices_on b)
+listed_within h l = omega (arith, l, ap (λ (rs : List StepRecord). length rs) h.choices)
 
 -- behind the last none is
-pub listed_all : {b : Board} {count i : ℕ} {cs : List StepRecord} {ks : List ℕ} → Listed b count cs ks → i ≤ length (choices_on b) → count ≤ i → i ≡ length (choices_on b)
+pub listed_all : {b : Board} {count i : ℕ} {cs : List StepRecord} {ks : List ℕ} → Listed b count cs ks → i ≡ min (length (take count cs)) (length ks) → i ≡ length (choices_on b)
 unfolding ChoicesNumber
-listed_all {b} h l m = omega (arith, l, m, h.number, choices_number b.n b.m)
+listed_all {b} {count} {i} {cs} {ks} h l =
+    omega (arith, l, h.long, ap (λ (rs : List StepRecord). length rs) h.choices, choices_number b.n b.m, number_most b.n b.m h.small.0 h.small.1)
 
 -- the record that is read is the choice of its number
-pub listed_choice : {b : Board} {count i : ℕ} {cs : List StepRecord} {ks : List ℕ} → Listed b count cs ks → i < count → get_or cs i no_step ≡ get_or (choices_on b) i no_step
-listed_choice {b} {i = i} {cs} h l =
-    sym (get_or-take (choice_number b.n b.m) cs i no_step (omega (arith, l, h.number))) ∙ ap (λ (rs : List StepRecord). get_or rs i no_step) h.choices
+pub listed_choice : {b : Board} {count : ℕ} {cs : List StepRecord} {ks : List ℕ} → Listed b count cs ks → (i : ℕ) {r : StepRecord} → r ≡ get_or (take count cs) i no_step → r ≡ get_or (choices_on b) i no_step
+listed_choice h i e = e ∙ ap (λ (rs : List StepRecord). get_or rs i no_step) h.choices
 
 -- and the number that is read is its answer
-pub listed_answer : {b : Board} {count i : ℕ} {cs : List StepRecord} {ks : List ℕ} → Listed b count cs ks → i < count → get_or ks i 0 ≡ (step b (get_or cs i no_step)).answer
-listed_answer {b} {count} {i} {cs} h l =
-    ap (λ (ns : List ℕ). get_or ns i 0) h.answers
-    ∙ answer_at b cs count i l (omega (arith, l, h.number, h.long, number_most b.n b.m h.small.0 h.small.1))
+pub listed_answer : {b : Board} {count i : ℕ} {cs : List StepRecord} {ks : List ℕ} → Listed b count cs ks → i < length (take count cs) → {r : StepRecord} → r ≡ get_or (take count cs) i no_step → {k : ℕ} → k ≡ get_or ks i 0 → k ≡ number_of (step b r).answer
+listed_answer {b} {count} {i} {cs} h l e q =
+    let below : (i < count) × (i < length cs) = (omega (arith, l, length-take count cs), omega (arith, l, length-take count cs)) in
+    q ∙ ap (λ (ns : List ℕ). get_or ns i 0) h.answers ∙ answer_at b cs count i below.0 below.1 ∙ ap (λ (x : StepRecord). number_of (step b x).answer) (sym (get_or-take count cs i no_step below.0) ∙ sym e)
 
 -- ---- sums over the first choices
 module _ (b : Board) (k : ℕ) where
@@ -109,19 +111,19 @@ module _ (b : Board) (k : ℕ) where
     part_more : (is : Board → Bool) (sum part : ℕ) → accepted_choice is b k (choice_at i) ≡ part → sum ≡ accepted_to is i → sum + part ≡ accepted_to is (suc i)
     part_more is sum part e s = omega (arith, s, e, sum_taken (λ j r. accepted_choice is b k r) (choices_on b) i no_step l)
 
-    accepted_more : (is : Board → Bool) (sum : ℕ) → (step b (choice_at i)).answer ≡ 0 → sum ≡ accepted_to is i → sum + ending_count is (step b (choice_at i)).board k ≡ accepted_to is (suc i)
+    accepted_more : (is : Board → Bool) (sum : ℕ) → number_of (step b (choice_at i)).answer ≡ 0 → sum ≡ accepted_to is i → sum + ending_count is (step b (choice_at i)).board k ≡ accepted_to is (suc i)
     accepted_more is sum e = part_more is sum _ (rw (eq-eqb _ 0 e))
 
-    refused_more : (is : Board → Bool) (sum : ℕ) → ((step b (choice_at i)).answer ≡ 0 → ⊥) → sum ≡ accepted_to is i → sum ≡ accepted_to is (suc i)
+    refused_more : (is : Board → Bool) (sum : ℕ) → (number_of (step b (choice_at i)).answer ≡ 0 → ⊥) → sum ≡ accepted_to is i → sum ≡ accepted_to is (suc i)
     refused_more is sum n s = omega (arith, part_more is sum 0 (rw (ne_eqb _ 0 n)) s)
 
     -- the turn of an accepted choice r, with the board that it leaves and what follows from there
     pub turn_accepted :
-        {sum part : Ends} {refused i' : ℕ} {r : StepRecord} {next : Board} → Turn sum refused i → i' ≡ suc i → r ≡ choice_at i → (step b r).answer ≡ 0 → next ≡ (step b r).board → part ≡ ends_from next k
+        {sum part : Ends} {refused i' : ℕ} {r : StepRecord} {next : Board} → Turn sum refused i → i' ≡ suc i → r ≡ choice_at i → number_of (step b r).answer ≡ 0 → next ≡ (step b r).board → part ≡ ends_from next k
         → Turn (plus_of sum part) refused i'
     turn_accepted {sum} {part} {refused} {i'} {r} {next} w ei er e en ep =
         let given : part ≡ ends_from (step b (choice_at i)).board k = ep ∙ ap (λ (c : Board). ends_from c k) (en ∙ ap (λ (q : StepRecord). (step b q).board) er) in
-        let a : (step b (choice_at i)).answer ≡ 0 = sym (ap (λ (q : StepRecord). (step b q).answer) er) ∙ e in
+        let a : number_of (step b (choice_at i)).answer ≡ 0 = sym (ap (λ (q : StepRecord). number_of (step b q).answer) er) ∙ e in
         let none : refused_choice b (choice_at i) ≡ 0 = rw (eq-eqb _ 0 a) in
         subst (λ (j : ℕ). Turn (plus_of sum part) refused j) (sym ei) (subst (λ (p : Ends). Turn (plus_of sum p) refused (suc i)) (sym given) (record {
           within = l;
@@ -132,9 +134,9 @@ module _ (b : Board) (k : ℕ) where
           other = accepted_more is_other sum.other a w.other;
         }))
 
-    pub turn_refused : {sum : Ends} {refused refused' i' : ℕ} {r : StepRecord} → Turn sum refused i → i' ≡ suc i → refused' ≡ suc refused → r ≡ choice_at i → ((step b r).answer ≡ 0 → ⊥) → Turn sum refused' i'
+    pub turn_refused : {sum : Ends} {refused refused' i' : ℕ} {r : StepRecord} → Turn sum refused i → i' ≡ suc i → refused' ≡ suc refused → r ≡ choice_at i → (number_of (step b r).answer ≡ 0 → ⊥) → Turn sum refused' i'
     turn_refused {sum} {refused} {refused'} {i'} {r} w ei ef er left =
-        let n : (step b (choice_at i)).answer ≡ 0 → ⊥ = λ z. left (ap (λ (q : StepRecord). (step b q).answer) er ∙ z) in
+        let n : number_of (step b (choice_at i)).answer ≡ 0 → ⊥ = λ z. left (ap (λ (q : StepRecord). number_of (step b q).answer) er ∙ z) in
         let one : refused_choice b (choice_at i) ≡ 1 = rw (ne_eqb _ 0 n) in
         subst (λ (j : ℕ). Turn sum refused' j) (sym ei) (record {
           within = l;
@@ -199,7 +201,10 @@ module _ (b : Board) (k : ℕ) where
           omega (arith, parts.other, part_most is_other i),
         )
 
-    -- what the accepted ones alone count for
+    -- what the refused ones alone count for, and the accepted ones alone
+    pub times_fit : {sum same : Ends} {refused i : ℕ} → Turn sum refused i → same ≡ ends_from b k → Fits32 (times_of refused same)
+    times_fit {sum} w es = let f = turn_fits w es in (omega (arith, f.0), omega (arith, f.1), omega (arith, f.2))
+
     pub sum_fits : {sum : Ends} {refused i : ℕ} → Turn sum refused i → Fits32 sum
     sum_fits {i = i} w = (
       omega (arith, w.finished, part_most is_finished i),

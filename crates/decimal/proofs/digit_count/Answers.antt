@@ -1,12 +1,11 @@
 -- `digit_count`: the bits leave two counts, and one power decides between them.
 use mathlib.Core.Path.{◌≡◌, refl, sym, ◌∙◌}
 use mathlib.Core.Bool.{Bool, true, ◌&&◌, and-eq-true_iff}
-use Prim.Native.Nat.{ℕ, zero, suc, ◌+◌, ◌-◌, ◌*◌, ◌/◌, ◌^◌, ◌≤◌, ◌<◌}
-use native.Mathlib.Nat.{le_trans, le_of_suc-le-suc, not-suc-le-zero, pow-suc}
+use Prim.Native.Nat.{ℕ, zero, suc, ◌+◌, ◌*◌, ◌/◌, ◌^◌, ◌≤◌, ◌<◌}
+use native.Mathlib.Nat.{le_of_suc-le-suc, not-suc-le-zero, pow-suc}
 use native.Mathlib.Omega.{arith}
 use native.Mathlib.Numerals.{add-one}
 use borrow.Author.Tests.{leb-true}
-use lib.Count.{count_leading_zeros, leading_length}
 use lib.Dec.{leb}
 use Rattle.decimal.specs.Spelling.{digit_count}
 use Rattle.decimal.proofs.CountLaws.{count_exact}
@@ -36,26 +35,22 @@ module _ (m : ℕ) where
       (leb-true _ _ tests.0, leb-true _ _ tests.1)
 
 -- ---- one power decides
-abbrev bits_of : ℕ → ℕ
-bits_of n = 64 - count_leading_zeros 64 n
-
--- m passes at every length that a number of 64 bits has
-module _ (m : ℕ) (all : all_below (around m) 65 ≡ true) (n : ℕ) (fits : n < 2 ^ 64) where
+-- m passes at every length that a number of 64 bits has; the number's highest bit is bit j
+module _ (m : ℕ) (all : all_below (around m) 65 ≡ true) (n j : ℕ) (fits : n < 2 ^ 64) (short : j < 64) (low : 2 ^ j ≤ n) (high : n < 2 * 2 ^ j) where
   abbrev by_bits : ℕ
-  by_bits = digits_by m (bits_of n)
+  by_bits = digits_by m (j + 1)
 
-  bounds : (n < 10 ^ suc by_bits) × (10 ^ by_bits ≤ 2 * n + 1)
+  bounds : (n < 10 ^ suc by_bits) × (10 ^ by_bits ≤ 2 * n)
   bounds =
-      let long = leading_length 64 n fits in
-      let is : bits_of n ≡ long.0 = omega (arith, long.1) in
-      let powers = powers_around m long.0 (below_at (around m) 65 all long.0 (omega (arith, long.1))) in
-      rw is (le_trans long.2 powers.1, le_trans powers.0 long.3)
+      let double : 2 ^ (j + 1) ≡ 2 ^ j * 2 = rw add-one (pow-suc 2 j) in
+      let powers = powers_around m (j + 1) (below_at (around m) 65 all (j + 1) (omega arith)) in
+      (omega (arith, double, powers.1), omega (arith, double, powers.0))
 
   -- below the power: the one before it is reached
   bits_under : 1 ≤ n → n < 10 ^ by_bits → digit_count n ≡ by_bits
   bits_under = by_count by_bits bounds.1
     where
-      by_count : (k : ℕ) → 10 ^ k ≤ 2 * n + 1 → 1 ≤ n → n < 10 ^ k → digit_count n ≡ k
+      by_count : (k : ℕ) → 10 ^ k ≤ 2 * n → 1 ≤ n → n < 10 ^ k → digit_count n ≡ k
       by_count zero l some h = absurd (omega (arith, some, h))
       by_count (suc k) l some h = count_exact n k (omega (arith, fits)) h (λ _. omega (arith, l, pow-suc 10 k))
 
@@ -65,8 +60,8 @@ module _ (m : ℕ) (all : all_below (around m) 65 ≡ true) (n : ℕ) (fits : n 
 pub returns-then-n-lt10 : goal.returns-then-n-lt10
 returns-then-n-lt10 c = sym (count_exact _ 0 (omega arith) (omega arith) (λ some. absurd (omega (arith, some))))
 
-pub returns-then-n-power : goal.returns-then-n-power
-returns-then-n-power c = sym (bits_under _ refl _ (omega arith) (omega arith) (omega (arith, c.power.ensures)))
+pub returns-then-n-pow : goal.returns-then-n-pow
+returns-then-n-pow c = let bits = c.ilog2-bits.ensures in sym (bits_under _ refl _ _ (omega arith) bits.bound bits.power_le bits.next_power_gt (omega arith) (omega (arith, c.pow.ensures)))
 
 pub returns : goal.returns
-returns c = add-one _ ∙ sym (bits_from _ refl _ (omega arith) (omega (arith, c.power.ensures)))
+returns c = let bits = c.ilog2-bits.ensures in add-one _ ∙ sym (bits_from _ refl _ _ (omega arith) bits.bound bits.power_le bits.next_power_gt (omega (arith, c.pow.ensures)))

@@ -1,32 +1,26 @@
--- `read_number`: the laws of a byte that is a digit, of one that is not, and of a value that is too large.
-use mathlib.Core.Path.{sym, ◌∙◌}
-use native.Mathlib.Numerals.{add-one}
-use native.Mathlib.Omega.{arith}
-use Rattle.decimal.proofs.ReadLaws.{read_empty, read_start, read_end, read_digit, read_below, read_over, read_large}
+-- `read_number`: the laws of a byte that is a digit, and of one that is not or makes the value too large.
+use Rattle.std.proofs.Common.{get_or, sym, ◌∙◌, rules, arith}
+use Rattle.std.proofs.lemmas.Result.{err_from_is_err_and}
+use Rattle.decimal.proofs.ReadLaws.{read_empty, read_start, read_end, read_next, with_small}
 use Rattle.decimal.proofs.read_number.Goals as goal
 
-pub returns-then-field-eq0 : goal.returns-then-field-eq0
-returns-then-field-eq0 c = sym (read_empty _ (omega arith))
+pub returns-then-is_empty : goal.returns-then-is_empty
+returns-then-is_empty c = sym (read_empty _ (search rules))
 
-pub loop-i-init : goal.loop-i-init
-loop-i-init c = record { within = omega arith; small = omega arith; same = read_start _ (omega arith) }
+pub loop-c-init : goal.loop-c-init
+loop-c-init c = record { small = omega arith; same = read_start _ (search rules) }
 
-pub returns-then-c-lt48 : goal.returns-then-c-lt48
-returns-then-c-lt48 c = sym (c.loop-i.invariant.same ∙ read_below c.loop-i.value c.args.field.now c.loop-i.i (omega arith) (omega arith))
-
-pub returns-then-c-gt57 : goal.returns-then-c-gt57
-returns-then-c-gt57 c = sym (c.loop-i.invariant.same ∙ read_over c.loop-i.value c.args.field.now c.loop-i.i (omega arith) (omega arith))
-
-pub returns-then-value-gt65535 : goal.returns-then-value-gt65535
-returns-then-value-gt65535 c = sym (c.loop-i.invariant.same ∙ read_digit c.loop-i.value c.args.field.now c.loop-i.i (omega arith) (omega arith) (omega arith) ∙ read_large _ _ (omega arith))
-
-pub loop-i-preserved : goal.loop-i-preserved
-loop-i-preserved c =
+pub loop-c-preserved : goal.loop-c-preserved
+loop-c-preserved c =
     record {
-      within = omega arith;
-      small = omega arith;
-      same = rw add-one (c.loop-i.invariant.same ∙ read_digit c.loop-i.value c.args.field.now c.loop-i.i (omega arith) (omega arith) (omega arith));
+      small = with_small c.loop-c.value (get_or c.args.field.now c.loop-c.c-index 0) c.in_ok-value.ensures;
+      same = c.loop-c.invariant.same ∙ read_next _ _ _ c.loop-c-test.true c.in_ok-value.ensures;
     }
 
+pub returns-in_err-value : goal.returns-in_err-value
+returns-in_err-value c =
+    let left = err_from_is_err_and c.from_residual.result c.from_residual.ensures.1 in
+    rw (left.1, left.2) (sym (c.loop-c.invariant.same ∙ read_next _ _ _ c.loop-c-test.true c.in_err-value.ensures))
+
 pub returns : goal.returns
-returns c = sym (c.loop-i.invariant.same ∙ read_end c.loop-i.value c.args.field.now c.loop-i.i (omega arith) (omega arith))
+returns c = sym (c.loop-c.invariant.same ∙ read_end _ _ _ c.loop-c-test.false c.loop-c.invariant.small)

@@ -1,38 +1,32 @@
--- `spell_in`: one turn stores the first of the digits that are left, and leaves the others.
-use mathlib.Core.Path.{◌≡◌, ap, ◌∙◌}
-use mathlib.Core.List.{List}
-use Prim.Native.Nat.{ℕ, suc, ◌+◌, ◌-◌, ◌/◌, ◌%◌, ◌^◌, ◌≤◌, ◌<◌}
-use native.Mathlib.Numerals.{add-one}
-use native.Mathlib.Omega.{arith}
-use lib.ListN.{set, length-set}
-use lib.Seq.{sets}
-use Rattle.decimal.specs.Spelling.{spell}
-use Rattle.decimal.proofs.SpellLaws.{lead_rest}
+-- `spell_in`: one turn writes the last of the digits that are left.
+use Rattle.std.proofs.Common.{◌≡◌, List, ◌++◌, append-nil, ℕ, zero, suc, ◌-◌, ◌/◌, ◌%◌, ◌^◌, ◌+◌, ◌<◌, ◌≤◌, length, drop, set, ◌∙◌, arith, add-one, sub-one, append_assoc}
+use Rattle.std.proofs.Math.Nat.{pow-suc}
+use Rattle.std.proofs.Math.Seq.{drop-length}
+use Rattle.std.proofs.lemmas.List.{drop-set}
+use Rattle.decimal.specs.Spelling.{spell, spelled}
+use Rattle.decimal.proofs.CountLaws.{below_count}
+use Rattle.decimal.proofs.SpellLaws.{spell_last}
 use Rattle.decimal.proofs.spell_in.Goals as goal
 
-module _ (left rest p : ℕ) (some : 1 ≤ left) (is : p ≡ 10 ^ (left - 1)) (fits : rest < 10 ^ left) where
-  again : suc (left - 1) ≡ left
-  again = omega arith
+module _ (rest : ℕ) (digits : List ℕ) where
+  turn_fits : (i : ℕ) → 0 < i → rest < 10 ^ i → rest / 10 < 10 ^ (i - 1)
+  turn_fits zero h f = absurd (omega arith)
+  turn_fits (suc i) h f = rw sub-one (omega (arith, pow-suc 10 i))
 
-  turn_rest : rest % p < 10 ^ (left - 1)
-  turn_rest = rw is (lead_rest (left - 1) rest)
+  turn : (i : ℕ) → 0 < i → i ≤ length digits → rest < 10 ^ i → spell (i - 1) (rest / 10) ++ drop (i - 1) (set digits (i - 1) (48 + rest % 10)) ≡ spell i rest ++ drop i digits
+  turn zero h l f = absurd (omega arith)
+  turn (suc i) h l f = rw (sub-one, spell_last i rest f, drop-set digits i (48 + rest % 10) l, add-one, append_assoc)
 
-  turn_sets : (out : List ℕ) (to : ℕ) → sets (set out to (48 + rest / p)) (to + 1) (spell (left - 1) (rest % p)) ≡ sets out to (spell left rest)
-  unfolding spell
-  turn_sets out to = rw (is, add-one) (ap (λ (k : ℕ). sets out to (spell k rest)) again)
+pub loop-i-init : goal.loop-i-init
+loop-i-init c = record { fits = rw c.requires (below_count c.args.n (omega arith)); spelled = rw (drop-length, append-nil) }
 
-pub loop-left-preserved : goal.loop-left-preserved
-loop-left-preserved c =
+pub loop-i-preserved : goal.loop-i-preserved
+loop-i-preserved c =
     record {
-      within = omega arith;
-      place = omega arith;
-      long = simp length-set (omega arith);
-      fits = turn_rest _ _ _ (omega arith) c.power-p.ensures (omega arith);
-      stored = turn_sets _ _ _ (omega arith) c.power-p.ensures (omega arith) _ _ ∙ c.loop-left.invariant.stored;
+      fits = turn_fits _ c.loop-i.digits _ c.loop-i-test.true c.loop-i.invariant.fits;
+      spelled = turn _ _ _ c.loop-i-test.true (omega arith) c.loop-i.invariant.fits ∙ c.loop-i.invariant.spelled;
     }
 
 pub returns : goal.returns
-unfolding spell
-returns c =
-    let none : c.loop-left.left ≡ 0 = omega arith in
-    rw none at c.loop-left.invariant.stored
+unfolding spell spelled
+returns c = let none : c.loop-i.i ≡ 0 = omega arith in rw (none, c.requires) at c.loop-i.invariant.spelled

@@ -1,18 +1,11 @@
--- At each turn, storing the digits that are left gives what storing all of them gives.
-use Rattle.std.proofs.Common.{◌≡◌, ◌+◌, ◌^◌, ◌<◌, ◌≤◌, length}
-use Rattle.std.proofs.lemmas.List.Edits.{sets}
+-- The digits that are left of the rest, and those that are written, are all of the number's.
+use Rattle.std.proofs.Common.{◌≡◌, ◌++◌, ◌^◌, ◌<◌, length, drop}
 use Rattle.decimal.specs.Spelling.{spell}
 use Rattle.decimal.proofs.spell_in.Given as goal
 
-abbrev pub invariant-loop-left : goal.invariant-loop-left
-invariant-loop-left l =
+abbrev pub invariant-loop-i : goal.invariant-loop-i
+invariant-loop-i l =
     record {
-      within : l.left ≤ l.k;
-      place : l.to + l.left ≡ l.at + l.k;
-      long : length l.out ≡ length l.fn.out;
-      fits : l.rest < 10 ^ l.left;
-      stored : sets l.out l.to (spell l.left l.rest) ≡ sets l.fn.out l.at (spell l.k l.n);
+      fits : l.rest < 10 ^ l.i;
+      spelled : spell l.i l.rest ++ drop l.i l.digits ≡ spell (length l.fn.digits) l.n;
     }
-
-abbrev pub decreases-loop-left : goal.decreases-loop-left
-decreases-loop-left l = l.left

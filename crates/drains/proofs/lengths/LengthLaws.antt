@@ -8,8 +8,10 @@ use native.Mathlib.Decide.{ℕ_discrete}
 use native.Mathlib.Omega.{arith}
 use lib.ListN.{length, get_or, set, take, length-set}
 use lib.Seq.{take_all, get_or-set_same, get_or-set_other}
+use Rattle.std.proofs.lemmas.List.{get_or_default}
 use Rattle.rules.specs.Facts.{sum_of}
 use Rattle.rules.specs.Records.{blank_unit, blank_slot}
+use Rattle.rules.specs.declared.Slot.{Slot}
 use Rattle.rules.specs.Sheets.Sheet.{Sheet, parent_at, unit_at, slot_at}
 use Rattle.rules.specs.Sheets.Sound.{Sound, parent_row}
 use Rattle.rules.specs.Sheets.Depths.{depth, depth_within}
@@ -87,6 +89,9 @@ module _ (b : Sheet) (h : Sound b) where
 
   pub receiver_near : (j : ℕ) → (slot_at b j).to < 64
   receiver_near j = below_or_not j b.m (λ q. omega (arith, receiver_in_use b h j q, h.s1_sizes)) (λ q. omega (arith, slot_past_row b h j q))
+
+  pub receivers_near : (j : ℕ) (y : Slot) → j < length b.slots → (j < 256) × ((get_or b.slots j y).to < 64)
+  receivers_near j y l = (omega (arith, l, h.s1_sizes), subst (λ (z : Slot). z.to < 64) (get_or_default b.slots j blank_slot y l) (receiver_near j))
 
   -- the sums by a table of depths are the length
   pub length_by_table : (ds : List ℕ) → ((i : ℕ) → i < 64 → get_or ds i 0 ≡ depth b.parents i)

@@ -15,32 +15,32 @@ start_nil zero = refl
 start_nil (suc k) = rw (start_nil k)
 
 module _ (at : ℕ) (l : List ℕ) {end : ℕ} (inside : at ≤ length l) (t : end ≡ end_from tab at l) where
-  start_next : (k : ℕ) → 0 < k → end < length l → at + field_start k (drop at l) ≡ end + 1 + field_start (k - 1) (drop (end + 1) l)
+  start_next : (k : ℕ) → end < length l → at + field_start (suc k) (drop at l) ≡ end + 1 + field_start k (drop (end + 1) l)
   unfolding field_start
-  start_next zero p h = absurd (omega arith)
-  start_next (suc k) p h =
-      let one : suc k - 1 ≡ k = omega arith in
-      rw (one, add-one, past_from tab at l inside, ← t, length-drop, length-drop) (omega (arith, end_after tab at l inside))
+  start_next k h = rw (add-one, past_from tab at l inside, ← t, length-drop, length-drop) (omega (arith, end_after tab at l inside))
 
-  start_last : (k : ℕ) → 0 < k → end ≡ length l → at + field_start k (drop at l) ≡ end
+  start_last : (k : ℕ) → end ≡ length l → at + field_start (suc k) (drop at l) ≡ end
   unfolding field_start
-  start_last zero p h = absurd (omega arith)
-  start_last (suc k) p h = rw (past_from tab at l inside, drop_of_length-le l {i = suc (end_from tab at l)} (omega arith), start_nil k, length-drop) (omega arith)
+  start_last k h = rw (past_from tab at l inside, drop_of_length-le l {i = suc (end_from tab at l)} (omega arith), start_nil k, length-drop) (omega arith)
 
 pub returns-then-end-line : goal.returns-then-end-line
-returns-then-end-line c = sym (start_last _ _ c.loop-left.invariant.within c.end_from-end.ensures c.loop-left.left (omega arith) c.if-end-line.true) ∙ c.loop-left.invariant.start
+returns-then-end-line c =
+    let last = start_last _ _ c.loop.invariant.within c.end_from-end.ensures (c.args.k - (c.loop.counter + 1)) c.if-end-line.true in
+    let some : c.args.k - c.loop.counter ≡ suc (c.args.k - (c.loop.counter + 1)) = omega arith in
+    sym last ∙ rw some at c.loop.invariant.start
 
 pub overflow_add-at : goal.overflow_add-at
-overflow_add-at c = omega (arith, end_at_most tab c.loop-left.at c.args.line.now)
+overflow_add-at c = omega (arith, end_at_most tab c.loop.at c.args.line.now)
 
-pub loop-left-preserved : goal.loop-left-preserved
-loop-left-preserved c =
-    let more : c.end_from-end.result < length c.args.line.now = omega (arith, end_at_most tab c.loop-left.at c.args.line.now) in
+pub loop-preserved : goal.loop-preserved
+loop-preserved c =
+    let more : c.end_from-end.result < length c.args.line.now = omega (arith, end_at_most tab c.loop.at c.args.line.now) in
+    let some : c.args.k - c.loop.counter ≡ suc (c.args.k - (c.loop.counter + 1)) = omega arith in
     record {
       within = omega arith;
-      start = sym (start_next _ _ c.loop-left.invariant.within c.end_from-end.ensures c.loop-left.left (omega arith) more) ∙ c.loop-left.invariant.start;
+      start = sym (start_next _ _ c.loop.invariant.within c.end_from-end.ensures (c.args.k - (c.loop.counter + 1)) more) ∙ rw some at c.loop.invariant.start;
     }
 
 pub returns : goal.returns
 unfolding field_start
-returns c = let none : c.loop-left.left ≡ 0 = omega arith in omega (arith, rw none at c.loop-left.invariant.start)
+returns c = let none : c.args.k - c.loop.counter ≡ 0 = omega arith in omega (arith, rw none at c.loop.invariant.start)

@@ -1,10 +1,7 @@
 -- The start of the field, counted from here on, is the start on the whole line.
-use Rattle.std.proofs.Common.{◌≡◌, ◌+◌, ◌≤◌, length, drop}
+use Rattle.std.proofs.Common.{◌≡◌, ◌+◌, ◌-◌, ◌≤◌, length, drop}
 use Rattle.fields.specs.Fields.{field_start}
 use Rattle.fields.proofs.field_start.Given as goal
 
-abbrev pub invariant-loop-left : goal.invariant-loop-left
-invariant-loop-left l = record { within : l.at ≤ length l.line; start : l.at + field_start l.left (drop l.at l.line) ≡ field_start l.k l.line }
-
-abbrev pub decreases-loop-left : goal.decreases-loop-left
-decreases-loop-left l = l.left
+abbrev pub invariant-loop : goal.invariant-loop
+invariant-loop l = record { within : l.at ≤ length l.line; start : l.at + field_start (l.k - l.counter) (drop l.at l.line) ≡ field_start l.k l.line }

@@ -1,5 +1,5 @@
 -- On a sound board round one is open, any other is left.
-use Rattle.std.proofs.Common.{◌≡◌, true, false}
+use Rattle.std.proofs.Common.{◌≡◌, refl, true, false}
 use Rattle.rules.specs.Sound.{sound}
 use Rattle.rounds.proofs.BeginLaws.{begin_refused, begin_opened, begin_meets}
 use Rattle.rounds.proofs.begin.Goals as goal
@@ -13,5 +13,5 @@ returns-then-not-is_sound c =
 pub returns : goal.returns
 returns c =
     let so : sound c.args.b ≡ true = cc in
-    let met = begin_meets c.args.b _ (begin_opened c.args.b c.round_one-b.result so c.round_one-b.ensures) in
+    let met = begin_meets c.args.b _ (begin_opened c.args.b _ so refl) in
     record { value = met.0; carries = met.1 }

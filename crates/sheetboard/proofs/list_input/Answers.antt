@@ -1,19 +1,21 @@
 -- `list_input`: where nothing failed, the output has got the listing of the bytes read, which is that of the whole input.
-use Rattle.std.proofs.Common.{List, ℕ, ap, is_ok, subst, rules}
-use Rattle.std.proofs.lemmas.Option.{IfSome_then}
-use Rattle.std.specs.Io.KnownBytes.{Appends}
+use Rattle.std.proofs.Common.{take, rules}
 use Rattle.listing.specs.Scripts.{listing}
-use Rattle.reading.proofs.InputLaws.{reads_enough}
-use Rattle.sheetboard.proofs.WholeLaws.{listing_cut, listing_arrives}
+use Rattle.reading.proofs.InputLaws.{reads_whole}
+use Rattle.reading.proofs.OutputLaws.{text_arrives}
+use Rattle.sheetboard.proofs.WholeLaws.{listing_cut, lists_read}
 use Rattle.sheetboard.proofs.list_input.Goals as goal
 
-pub returns-in-Ok : goal.returns-in-Ok
-returns-in-Ok g c =
-    let buf = c.read_input-read.new.buf in
-    let n = c.in-Bytes.field-0 in
-    let before = g.W.Write.contents c.args.to.now in
-    let after = g.W.Write.contents c.list_read-handed.new.to in
-    let arrived = listing_arrives before after buf c.in-Bytes.is (ap is_ok c.in-Ok.is) c.list_read-handed.ensures.bytes in
-    IfSome_then (g.R.Read.remaining c.args.input.now)
-    (reads_enough listing 65535 listing_cut _ (g.R.Read.remaining c.read_input-read.new.input) n buf (search rules) c.in-Bytes.ensures.bound.1 c.in-Bytes.ensures.bytes)
-    (λ s e. subst (λ (x : List ℕ). Appends before after x) e arrived)
+pub returns-clause-handed : goal.returns-clause-handed
+returns-clause-handed g c =
+    let input = g.R.Read.remaining c.args.input.now in
+    let buf = c.read_input.new.buf in
+    let whole = reads_whole listing 65535 listing_cut input (g.R.Read.remaining c.read_input.new.input) buf (search rules) c.read_input.result c.in_ok-count.count c.in_ok-count.ensures.cases c.read_input.ensures.bound c.read_input.ensures.bytes in
+    lists_read input (take c.in_ok-count.count buf) whole c.list.result c.map_err-2.result c.list.new.to.handed c.map_err-2.ensures.cases c.list.ensures.handed
+
+pub returns-clause-bytes : goal.returns-clause-bytes
+returns-clause-bytes g c =
+    let input = g.R.Read.remaining c.args.input.now in
+    let buf = c.read_input.new.buf in
+    let whole = reads_whole listing 65535 listing_cut input (g.R.Read.remaining c.read_input.new.input) buf (search rules) c.read_input.result c.in_ok-count.count c.in_ok-count.ensures.cases c.read_input.ensures.bound c.read_input.ensures.bytes in
+    text_arrives listing input _ _ (take c.in_ok-count.count buf) whole c.list.result c.map_err-2.result c.map_err-2.ensures.cases c.list.ensures.bytes

@@ -16,14 +16,14 @@ told_by o = cond (eqb o.answer 0) (length_answer o.board) (Refused o.answer)
 by_test : (o : Outcome) {t : Bool} → eqb o.answer 0 ≡ t → cond t (length_answer o.board) (Refused o.answer) ≡ told_by o
 by_test o e = ap (λ (x : Bool). cond x (length_answer o.board) (Refused o.answer)) (sym e)
 
-pub returns-then-k-ne0 : goal.returns-then-k-ne0
+pub returns-then-end-ne0 : goal.returns-then-end-ne0
 unfolding script_drain
-returns-then-k-ne0 c =
-    let o = c.ending-o.result in
-    by_test o (ne_eqb o.answer 0 (λ z. omega (arith, c.if-k-ne0.true, z))) ∙ ap told_by c.ending-o.ensures
+returns-then-end-ne0 c =
+    let o = c.ending-end.result in
+    by_test o (ne_eqb o.answer 0 (λ z. omega (arith, c.if-end-ne0.true, z))) ∙ ap told_by c.ending-end.ensures
 
 pub returns : goal.returns
 unfolding script_drain
 returns c =
-    let o = c.ending-o.result in
-    c.longest_length.ensures.told ∙ by_test o (eq-eqb o.answer 0 (omega (arith, c.if-k-ne0.false))) ∙ ap told_by c.ending-o.ensures
+    let o = c.ending-end.result in
+    c.longest_length.ensures.told ∙ by_test o (eq-eqb o.answer 0 (omega (arith, c.if-end-ne0.false))) ∙ ap told_by c.ending-end.ensures

@@ -1,15 +1,11 @@
--- `tell`: no line is longer than its buffer, and what the output is handed of it is the line.
-use Rattle.std.proofs.Common.{◌≡◌, List, ℕ, OnOk, subst, arith}
-use Rattle.std.specs.Io.KnownBytes.{Appends}
-use Rattle.sheetdrain.specs.Drains.{script_drain}
-use Rattle.sheetdrain.specs.Lines.{line_of}
-use Rattle.sheetdrain.proofs.LineLaws.{told_line_most, line_handed}
+-- `tell`: what is written is the line, with its number spelled.
+use Rattle.std.proofs.Common.{ap, [], ◌∷◌, rules}
+use Rattle.sheetdrain.specs.Lines.{line_of, at_most_text, steps_more_text, refused_by_text}
+use Rattle.sheetdrain.proofs.LineLaws.{line_written}
 use Rattle.sheetdrain.proofs.tell.Goals as goal
 
-pub slice_bounds-write_all-end : goal.slice_bounds-write_all-end
-slice_bounds-write_all-end g c = omega (arith, c.put_told-n.ensures.0, told_line_most (script_drain c.args.script.now))
+pub returns-in-Steps : goal.returns-in-Steps
+returns-in-Steps g c = line_written at_most_text steps_more_text c.in-Steps.n _ _ c.writeln.result (ap line_of c.in-Steps.ensures) (search rules) c.writeln.ensures.bytes
 
-pub returns : goal.returns
-returns g c =
-    let told : _ ≡ line_of (script_drain c.args.script.now) = line_handed _ _ _ _ (omega (arith, told_line_most (script_drain c.args.script.now))) c.put_told-n.ensures in
-    subst (λ (x : List ℕ). OnOk c.write_all.result (Appends (g.W.Write.contents c.args.to.now) (g.W.Write.contents c.write_all.new.self) x)) told c.write_all.ensures.bytes
+pub returns-in-Refused : goal.returns-in-Refused
+returns-in-Refused g c = line_written refused_by_text (10 ∷ []) c.in-Refused.k _ _ c.writeln-in-Refused.result (ap line_of c.in-Refused.ensures) (search rules) c.writeln-in-Refused.ensures.bytes

@@ -1,21 +1,14 @@
 -- `tell_input`: where nothing failed, the output has got the line for the bytes read, which is that for the whole input.
-use Rattle.std.proofs.Common.{subst, rules}
-use Rattle.std.proofs.lemmas.Option.{IfSome_then}
-use Rattle.std.specs.Io.KnownBytes.{Appends}
-use Rattle.drains.specs.declared.Longest.{Longest}
-use Rattle.reading.proofs.InputLaws.{reads_enough}
-use Rattle.sheetdrain.specs.Drains.{script_drain}
-use Rattle.sheetdrain.specs.Lines.{line_of}
-use Rattle.sheetdrain.proofs.WholeLaws.{drain_cut, line_arrives}
+use Rattle.std.proofs.Common.{take, rules}
+use Rattle.reading.proofs.InputLaws.{reads_whole}
+use Rattle.reading.proofs.OutputLaws.{text_arrives}
+use Rattle.sheetdrain.specs.Lines.{script_line}
+use Rattle.sheetdrain.proofs.WholeLaws.{line_cut}
 use Rattle.sheetdrain.proofs.tell_input.Goals as goal
 
-pub returns-in-Ok : goal.returns-in-Ok
-returns-in-Ok g c =
-    let buf = c.read_input-read.new.buf in
-    let n = c.in-Bytes.field-0 in
-    let before = g.W.Write.contents c.args.to.now in
-    let after = g.W.Write.contents c.tell_read-taken.new.to in
-    let arrived = line_arrives before after buf c.in-Bytes.is (search rules) in
-    IfSome_then (g.R.Read.remaining c.args.input.now)
-    (reads_enough script_drain 65535 drain_cut _ (g.R.Read.remaining c.read_input-read.new.input) n buf (search rules) c.in-Bytes.ensures.bound.1 c.in-Bytes.ensures.bytes)
-    (λ s e. subst (λ (x : Longest). Appends before after (line_of x)) e arrived)
+pub returns : goal.returns
+returns g c =
+    let input = g.R.Read.remaining c.args.input.now in
+    let buf = c.read_input.new.buf in
+    let whole = reads_whole script_line 65535 line_cut input (g.R.Read.remaining c.read_input.new.input) buf (search rules) c.read_input.result c.in_ok-count.count c.in_ok-count.ensures.cases c.read_input.ensures.bound c.read_input.ensures.bytes in
+    text_arrives script_line input _ _ (take c.in_ok-count.count buf) whole c.tell.result c.map_err-2.result c.map_err-2.ensures.cases c.tell.ensures

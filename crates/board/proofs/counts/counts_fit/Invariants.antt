@@ -3,4 +3,4 @@ use Rattle.board.proofs.counts.CountLaws.{CountsSeen}
 use Rattle.board.proofs.counts.counts_fit.Given as goal
 
 abbrev pub invariant-loop-i : goal.invariant-loop-i
-invariant-loop-i l = CountsSeen l.n l.created l.processed l.k l.made l.done l.marked_made l.marked_done l.i
+invariant-loop-i l = CountsSeen l.b l.made l.done l.marked_made l.marked_done l.i

@@ -11,7 +11,10 @@ returns-then-u-eq0 t c = sym (ap (λ (u : ℕ). depth c.args.parents.now u) c.if
 pub overflow_add-result : goal.overflow_add-result
 overflow_add-result t c =
     let lower : get_or c.args.parents.now c.args.u 0 < c.args.u = c.requires.by_index c.args.u (omega arith) (omega arith) in
+    let above = rw c.from.ensures at c.depth_along.ensures in
     omega (arith, depth_by_number c.args.parents.now (get_or c.args.parents.now c.args.u 0))
 
 pub returns : goal.returns
-returns t c = add-one _ ∙ ap suc c.depth_along.ensures ∙ sym (depth_parent c.args.parents.now c.args.u (omega arith) c.requires.by_index)
+returns t c =
+    let above = rw c.from.ensures at c.depth_along.ensures in
+    add-one _ ∙ ap suc above ∙ sym (depth_parent c.args.parents.now c.args.u (omega arith) c.requires.by_index)

@@ -1,25 +1,24 @@
 -- On a sound board the parents of the units in use are lower, which `depth_along` asks.
-use Rattle.std.proofs.Common.{◌≡◌, true, false, ap, arith, suc-le-suc}
+use Rattle.std.proofs.Common.{ℕ, Ok, ◌≡◌, true, false, ap, arith, suc-le-suc}
 use borrow.Author.Tests.{le-leb, lt-leb}
 use Rattle.rules.specs.Boards.{view}
 use Rattle.rules.specs.Sound.{Sound, sound}
 use Rattle.rules.specs.Depths.{depth_answer}
-use Rattle.rules.specs.declared.Depth.TheVariants.{Deep}
 use Rattle.rules.proofs.SoundLaws.{sound_claims}
 use Rattle.rules.proofs.Sheets.SoundLaws.{parent_below}
 use Rattle.board.proofs.depths.depth_of.Goals as goal
 
-pub returns-then-not-sound : goal.returns-then-not-sound
+pub returns-then-not-is_sound : goal.returns-then-not-is_sound
 unfolding depth_answer
-returns-then-not-sound c =
+returns-then-not-is_sound c =
     let so : sound c.args.b ≡ false = cc in
     rw so
 
-pub returns-then-u-n : goal.returns-then-u-n
+pub returns-then-u-b : goal.returns-then-u-b
 unfolding depth_answer
-returns-then-u-n c =
+returns-then-u-b c =
     let so : sound c.args.b ≡ true = cc in
-    rw (so, lt-leb _ _ (suc-le-suc c.if-u-n.true))
+    rw (so, lt-leb _ _ (suc-le-suc c.if-u-b.true))
 
 pub depth_along-requires-clause-u_bound : goal.depth_along-requires-clause-u_bound
 depth_along-requires-clause-u_bound c =
@@ -37,4 +36,4 @@ pub returns : goal.returns
 unfolding depth_answer
 returns c =
     let so : sound c.args.b ≡ true = cc in
-    rw (so, le-leb _ _ c.if-u-n.false) (ap Deep c.depth_along.ensures)
+    rw (so, le-leb _ _ c.if-u-b.false) (ap (λ (k : ℕ). Ok k) c.depth_along.ensures)

@@ -9,9 +9,10 @@ loop-i-init c = first_depth _ _ (search rules) refl
 
 pub overflow_add-depths : goal.overflow_add-depths
 overflow_add-depths c =
-    let p = get_or c.args.parents c.loop-i.i 0 in
+    let ps = c.args.parents.now in
+    let p = get_or ps c.loop-i.i 0 in
     let l = c.requires c.loop-i.i c.loop-i.invariant.begun (omega arith) in
-    omega (arith, l, c.loop-i.invariant.are p l, depth_by_number c.args.parents p)
+    rw c.from.ensures (omega (arith, l, c.loop-i.invariant.are p l, depth_by_number ps p))
 
 pub loop-i-preserved : goal.loop-i-preserved
-loop-i-preserved c = next_depth c.args.parents c.loop-i.depths c.loop-i.i c.requires c.loop-i.invariant (omega arith)
+loop-i-preserved c = rw c.from.ensures (next_depth c.args.parents.now c.loop-i.depths c.loop-i.i c.requires c.loop-i.invariant (omega arith))

@@ -1,24 +1,19 @@
--- The list is written once, from the whole table.
-use Rattle.std.proofs.Common.{◌≡◌, ◌≤◌, List, ◌++◌, sym, ap, subst, ◌∙◌, length, drop, arith, rules}
-use lib.Seq.{take_all}
-use Rattle.drains.specs.Legs.{course, StaysInTable}
-use Rattle.drains.specs.declared.legs.Leg.{Leg}
-use Rattle.drains.proofs.MeetLaws.{writable, list_meets}
+-- By the length that is told, or by the refusal.
+use Rattle.std.proofs.lemmas.Result.{err_from_is_err_and}
+use Rattle.std.proofs.Common.{refl, sym, ◌∙◌}
+use Rattle.drains.proofs.MeetLaws.{told_room, told_meets, refused_meets}
 use Rattle.drains.proofs.lent.longest_drain.Goals as goal
 
-pub write-requires : goal.write-requires
-write-requires c =
-    let p = c.planned-p.result in
-    let n = c.drain_turns-n.result in
-    let list = c.args.list.now in
-    let long : length p.legs ≡ 385 = search rules in
-    subst (λ (table : List Leg). (n ≤ length list) × StaysInTable n table p.cursor) (sym (take_all 385 p.legs (omega (arith, long)))) (writable c.args.b list c.fitting-r.result n p c.fitting-r.ensures c.drain_turns-n.ensures c.planned-p.ensures)
+pub returns-in_err-longest : goal.returns-in_err-longest
+returns-in_err-longest c =
+    let p = err_from_is_err_and c.from_residual.result c.from_residual.ensures.1 in
+    rw (p.1, p.2) (refused_meets c.args.b c.args.list.now _ (sym c.in_err-longest.was ∙ c.fitting.ensures) _ refl)
+
+pub write_longest-requires-clause-sound : goal.write_longest-requires-clause-sound
+write_longest-requires-clause-sound c = (told_room c.args.b c.args.list.now c.fitting.result c.fitting.ensures _ c.in_ok-longest.was).0
+
+pub write_longest-requires-clause-room : goal.write_longest-requires-clause-room
+write_longest-requires-clause-room c = (told_room c.args.b c.args.list.now c.fitting.result c.fitting.ensures _ c.in_ok-longest.was).1
 
 pub returns : goal.returns
-returns c =
-    let p = c.planned-p.result in
-    let n = c.drain_turns-n.result in
-    let list = c.args.list.now in
-    let long : length p.legs ≡ 385 = search rules in
-    list_meets c.args.b list c.fitting-r.result n p c.fitting-r.ensures c.drain_turns-n.ensures c.planned-p.ensures c.write.new.list
-    (c.write.ensures ∙ ap (λ (table : List Leg). course n table p.cursor ++ drop n list) (take_all 385 p.legs (omega (arith, long))))
+returns c = told_meets c.args.b c.args.list.now _ (sym c.in_ok-longest.was ∙ c.fitting.ensures) _ refl c.write_longest.new.list c.write_longest.ensures

@@ -1,14 +1,12 @@
--- By the unit that is asked for a mark and has none, or none such.
-use Rattle.std.proofs.Common.{◌≡◌, length, sym, arith, rules}
-use Rattle.rounds.proofs.marks.Marking.{one_unmarked, none_unmarked}
+-- `all` answers whether the units in use are marked.
+use Rattle.std.proofs.Common.{◌∙◌, rules}
+use Rattle.std.proofs.lemmas.Iterator.{YieldsList-from_slice, YieldsList-from_take}
+use Rattle.std.proofs.lemmas.Iterator.Search.{all_from_yields_List}
+use borrow.Author.Tests.{tests}
+use Rattle.rounds.proofs.marks.Marking.{marked_all}
 use Rattle.rounds.proofs.marks.all_marked.Goals as goal
-
-pub returns-then-not-unit_marked : goal.returns-then-not-unit_marked
-returns-then-not-unit_marked c =
-    let long : length c.args.k.visited ≡ 64 = search rules in
-    one_unmarked c.args.n c.args.k.visited c.loop-i.i (omega arith) (sym c.if-not-unit_marked.ensures)
 
 pub returns : goal.returns
 returns c =
-    let long : length c.args.k.visited ≡ 64 = search rules in
-    none_unmarked c.args.n c.args.k.visited (λ j l. c.loop-i.invariant j (omega arith))
+    all_from_yields_List (λ t. t) _ _ _ c.all.ensures.ran (YieldsList-from_take c.args.n (YieldsList-from_slice c.args.k.now.visited (cc)) (cc)) (λ x b q k. search (rules, tests))
+    ∙ marked_all c.args.n c.args.k.now.visited

@@ -1,0 +1,3 @@
+pub mod WritingLaws
+pub mod WayLaws
+pub mod ListLaws

@@ -1,4 +1,0 @@
-pub mod TableLaws
-pub mod CourseLaws
-pub mod LegLaws
-pub mod PlanLaws

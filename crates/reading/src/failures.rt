@@ -1,0 +1,27 @@
+// What keeps a program that reads and writes from its task, and how it is told.
+use arrayvec::ArrayString;
+use std::fmt::Write as _;
+use std::{fmt, io};
+
+#[derive(Clone, Copy, Debug)]
+pub enum Failure {
+    Reading(io::Error),
+    Writing(io::Error),
+}
+
+// More bytes than the text of an error has: its words have at most 256, and what is told of its number 23.
+const ROOM: usize = 320;
+
+// What failed, and why: the cause in words and without its number.
+impl fmt::Display for Failure {
+    fn fmt<W: fmt::Write>(&self, f: &mut fmt::Formatter<W>) -> fmt::Result {
+        let (failed, cause) = match self {
+            Failure::Reading(cause) => ("reading standard input", cause),
+            Failure::Writing(cause) => ("writing standard output", cause),
+        };
+        let mut text = ArrayString::<ROOM>::new();
+        write!(text, "{cause}")?;
+        let words = text.as_str().split(" (os error ").next().unwrap_or("");
+        write!(f, "{failed}: {words}")
+    }
+}

@@ -1,0 +1,7 @@
+-- The debts are those that a batch would have written.
+use Rattle.std.proofs.Common.{ℕ, List, []}
+use Rattle.steps.proofs.BatchLaws.{Turn, filled}
+use Rattle.steps.proofs.running.run.Given as goal
+
+abbrev pub invariant-loop-i : goal.invariant-loop-i
+invariant-loop-i l = (debts : List ℕ) × Turn (filled l.fn.b l.steps 0 0 l.fn.answers []) l.steps l.b l.zeros l.i l.answers debts
