@@ -6,8 +6,7 @@ use Prim.Native.Nat.{ℕ, ◌+◌, ◌-◌, ◌≤◌, ◌<◌}
 use native.Mathlib.Omega.{arith}
 use lib.ListN.{length, take, get_or, set, length-append, length-set}
 use lib.Seq.{sets, sets-eq, take_at, length-sets}
-use Rattle.std.specs.Prelude.{Result, Ok, Err}
-use Rattle.refusals.specs.declared.Refusal.{Refusal}
+use Rattle.std.specs.Prelude.{Ok}
 use Rattle.placing.specs.Placing.{wrote, written}
 use Rattle.placing.proofs.Stores.{sets_append}
 use Rattle.placing.proofs.WriteLaws.{wrote_fits, wrote_count, written_fits}
@@ -20,12 +19,6 @@ use Rattle.script.specs.Words.{words}
 use Rattle.script.specs.Writing.{letters_of, step_line, step_text, longest_step}
 use Rattle.script.proofs.KindLaws.{known_range, kind_back}
 use Rattle.script.proofs.LetterLaws.{line_short}
-
-pub ok_not_err : {n : ℕ} {k : Refusal} → ◌≡◌ {A = Result ℕ Refusal} (Ok n) (Err k) → ⊥
-ok_not_err e = cc
-
-pub ok_same : {n m : ℕ} → ◌≡◌ {A = Result ℕ Refusal} (Ok n) (Ok m) → n ≡ m
-ok_same e = cc
 
 -- with byte 10 at place `end` of a buffer, the text stands at its start; before, the buffer was blank
 pub record TextMade (r : StepRecord) (end : ℕ) (blank both : List ℕ) : Type 0 where
@@ -49,12 +42,8 @@ module _ (r : StepRecord) {a : Action} (is : a ≡ action_of r.kind) (known : is
   unfolding step_line
   line_length = rw (word_is, is) (sym (length-append (get_or words r.kind []) (tabbed (letters_of r (action_of r.kind)))))
 
-  word_written : wrote w 0 blank ≡ Ok (length w)
+  pub word_written : wrote w 0 blank ≡ Ok (length w)
   word_written = wrote_fits w 0 blank (omega (arith, line_length, short))
-
-  -- so the word is not refused
-  pub word_goes : {X : Type 0} {k : Refusal} → wrote w 0 blank ≡ Err k → X
-  word_goes e = absurd (ok_not_err (sym word_written ∙ e))
 
   module _ {from : ℕ} (count : wrote w 0 blank ≡ Ok from) {first : List ℕ} (put : first ≡ written w 0 blank) where
     from_is : from ≡ length w

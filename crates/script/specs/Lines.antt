@@ -68,10 +68,13 @@ is_opening (Err k) = false
 unfoldable pub board_line : List ℕ → BoardLine
 board_line l = record { reading = reading true l; parents = padded room (cond (is_opening (reading true l)) (parents_of l) []) }
 
--- the step where one is due: a board line is refused by 25
+-- the step of a line where one is due: a board line is refused by 25
+abbrev pub step_of : Line → Result StepRecord Refusal
+step_of (Opens m d n) = Err WrongPlace
+step_of (Asks r) = Ok r
+
 abbrev pub step_by : Result Line Refusal → Result StepRecord Refusal
-step_by (Ok (Opens m d n)) = Err WrongPlace
-step_by (Ok (Asks r)) = Ok r
+step_by (Ok l) = step_of l
 step_by (Err k) = Err k
 
 -- the number that refuses a line where a step is due: 25 for a board line, 0 for a step

@@ -6,6 +6,9 @@ mod lines;
 mod words;
 mod writing;
 
+ghost use Rattle.std.specs.Prelude.{◌≡◌};
+ghost use Rattle.script.specs.Lines.{step_of};
+
 pub use lines::{read_board, read_line, read_step};
 use numbers::ROOM;
 use refusals::Refusal;
@@ -17,6 +20,18 @@ pub use writing::write_step;
 pub enum Line {
     Opens(u16, u16, u16),
     Asks(StepRecord),
+}
+
+impl Line {
+    // The step that the line asks for, where one is due.
+    pub fn step(self) -> Result<StepRecord, Refusal>
+        ensures { result ≡ step_of self }
+    {
+        match self {
+            Line::Opens(..) => Err(Refusal::BoardLine),
+            Line::Asks(step) => Ok(step),
+        }
+    }
 }
 
 // A first line, with the parents of a line that opens a board and zeros behind them; of any other line all are zeros.

@@ -61,10 +61,7 @@ pub fn read_line(line: &[u8], first: bool) -> Result<Line, Refusal>
 pub fn read_step(line: &[u8]) -> Result<StepRecord, Refusal>
     ensures { result ≡ step_by (reading false line.now) }
 {
-    match read_line(line, false)? {
-        Line::Opens(..) => Err(Refusal::BoardLine),
-        Line::Asks(step) => Ok(step),
-    }
+    read_line(line, false)?.step()
 }
 
 // The numbers behind M and d.

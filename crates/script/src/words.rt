@@ -12,15 +12,7 @@ use rules::Action;
 
 // Each step's word stands at the step's kind.
 const WORDS: [&[u8]; 9] = [
-    b"board",
-    b"start",
-    b"send",
-    b"request",
-    b"deliver",
-    b"rest",
-    b"tick",
-    b"release",
-    b"move",
+    b"board", b"start", b"send", b"request", b"deliver", b"rest", b"tick", b"release", b"move",
 ];
 
 // What a line's word asks for.

@@ -12,25 +12,25 @@ use placing::put_bytes;
 use refusals::Refusal;
 use rules::{Action, StepRecord};
 
-// Each number behind a tab; the answer is the place behind them all.
-fn put_tabbed(ns: &[u16], out: &mut [u8], at: usize) -> Result<usize, Refusal>
+// Each number behind a tab, where all of them have room; the answer is the place behind them.
+fn put_tabbed(ns: &[u16], out: &mut [u8], at: usize) -> usize
     requires { at + length (tabbed ns.now) ≤ length out.old }
-    ensures { (result ≡ Ok (at + length (tabbed ns.now))) × (out.new ≡ sets out.old at (tabbed ns.now)) }
+    ensures { (result ≡ at + length (tabbed ns.now)) × (out.new ≡ sets out.old at (tabbed ns.now)) }
 {
     let mut to = at;
     for &n in ns {
-        to += put_tabbed_number(u64::from(n), out, to)?;
+        to += put_tabbed_number(u64::from(n), out, to).unwrap();
     }
-    Ok(to)
+    to
 }
 
-// The values of a step's letters in their order, each behind a tab; the answer is the place behind them all.
-fn put_letters(r: StepRecord, action: Action, out: &mut [u8], at: usize) -> Result<usize, Refusal>
+// The values of a step's letters in their order, each behind a tab; the answer is the place behind them.
+fn put_letters(r: StepRecord, action: Action, out: &mut [u8], at: usize) -> usize
     requires { at + length (tabbed (letters_of r action)) ≤ length out.old }
-    ensures { (result ≡ Ok (at + length (tabbed (letters_of r action)))) × (out.new ≡ sets out.old at (tabbed (letters_of r action))) }
+    ensures { (result ≡ at + length (tabbed (letters_of r action))) × (out.new ≡ sets out.old at (tabbed (letters_of r action))) }
 {
     match action {
-        Action::Unknown => Ok(at),
+        Action::Unknown => at,
         Action::Start | Action::Rest | Action::Tick => put_tabbed(&[r.unit], out, at),
         Action::Send => put_tabbed(&[r.unit, r.other, r.slot], out, at),
         Action::Request | Action::Release => put_tabbed(&[r.unit, r.slot], out, at),
@@ -40,16 +40,16 @@ fn put_letters(r: StepRecord, action: Action, out: &mut [u8], at: usize) -> Resu
 }
 
 // The line at the start of a buffer that has room for any; the answer is its length.
-fn put_step(r: StepRecord, action: Action, out: &mut [u8]) -> Result<usize, Refusal>
+fn put_step(r: StepRecord, action: Action, out: &mut [u8]) -> usize
     requires { (action ≡ action_of r.kind) × (is_known action ≡ true) × (longest_step ≤ length out.old) }
-    ensures wrote { result ≡ Ok (length (step_text r)) }
+    ensures whole { result ≡ length (step_text r) }
     ensures bytes { out.new ≡ sets out.old 0 (step_text r) }
     ensures fits { length (step_text r) ≤ length out.old }
 {
-    let from = put_bytes(step_word(action), out, 0)?;
-    let end = put_letters(r, action, out, from)?;
+    let from = put_bytes(step_word(action), out, 0).unwrap();
+    let end = put_letters(r, action, out, from);
     out[end] = b'\n';
-    Ok(end + 1)
+    end + 1
 }
 
 // The line at the start of a buffer. It is put together apart, so that its whole length is known before the buffer changes.
@@ -58,7 +58,7 @@ fn step_line(r: StepRecord, action: Action, out: &mut [u8]) -> Result<usize, Ref
     ensures { Writes (step_text r) 0 out.old result out.new }
 {
     let mut text = [0; 32];
-    let n = put_step(r, action, &mut text)?;
+    let n = put_step(r, action, &mut text);
     put_bytes(&text[..n], out, 0)
 }
 

@@ -1,9 +1,8 @@
 -- A kind that is none has no letters.
-use mathlib.Core.Path.{◌≡◌, refl, ap}
+use mathlib.Core.Path.{◌≡◌, refl}
 use mathlib.Core.List.{List, []}
 use Prim.Native.Nat.{ℕ}
 use native.Mathlib.Omega.{arith}
-use Rattle.std.proofs.Common.{Ok}
 use Rattle.rules.specs.declared.Action.{Action}
 use Rattle.rules.specs.declared.Action.TheVariants.{Unknown}
 use Rattle.rules.specs.declared.StepRecord.{StepRecord}
@@ -16,4 +15,4 @@ unfolding tabbed
 no_letters r a e = rw e
 
 pub returns-in-Unknown : goal.returns-in-Unknown
-returns-in-Unknown c = let none = no_letters c.args.r c.args.action c.in-Unknown.is in rw none (ap Ok (omega arith), refl)
+returns-in-Unknown c = let none = no_letters c.args.r c.args.action c.in-Unknown.is in rw none (omega arith, refl)

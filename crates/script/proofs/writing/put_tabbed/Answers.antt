@@ -15,9 +15,6 @@ use Rattle.placing.proofs.WriteLaws.{wrote_fits, wrote_count, written_then}
 use Rattle.numbers.specs.Numbers.{tabbed}
 use Rattle.script.proofs.writing.put_tabbed.Goals as goal
 
-ok_not_err : {n : ℕ} {k : Refusal} → ◌≡◌ {A = Result ℕ Refusal} (Ok n) (Err k) → ⊥
-ok_not_err e = cc
-
 -- ---- one turn of the writer over the numbers, at place `to` of `out`: number i is n
 module _ (ns : List ℕ) (i : ℕ) (inside : i < length ns) {n : ℕ} (is : n ≡ get_or ns i 0) (out : List ℕ) (to : ℕ) (fits : to + length (tabbed (drop i ns)) ≤ length out) where
   next : i + 1 ≡ suc i
@@ -33,10 +30,6 @@ module _ (ns : List ℕ) (i : ℕ) (inside : i < length ns) {n : ℕ} (is : n �
   turn_written : wrote (tab ∷ spelled n) to out ≡ Ok (length (tab ∷ spelled n))
   turn_written = wrote_fits (tab ∷ spelled n) to out turn_fits
 
-  -- so it is not refused
-  turn_goes : {X : Type 0} {k : Refusal} → wrote (tab ∷ spelled n) to out ≡ Err k → X
-  turn_goes e = absurd (ok_not_err (sym turn_written ∙ e))
-
   module _ {k : ℕ} (count : wrote (tab ∷ spelled n) to out ≡ Ok k) where
     bytes : k ≡ length (tab ∷ spelled n)
     bytes = (wrote_count (tab ∷ spelled n) to out count).0
@@ -51,18 +44,15 @@ tabbed_end : (ns : List ℕ) (i : ℕ) → length ns ≤ i → tabbed (drop i ns
 unfolding tabbed
 tabbed_end ns i h = rw (drop_of_length-le ns {i = i} h)
 
-pub returns-in_err-to : goal.returns-in_err-to
-returns-in_err-to c =
-    turn_goes c.args.ns.now c.loop-n.n-index c.loop-n-test.true c.from.ensures c.loop-n.out c.loop-n.to (omega arith) (sym c.put_tabbed_number.ensures.0 ∙ c.in_err-to.was)
+pub unwrap-to-requires : goal.unwrap-to-requires
+unwrap-to-requires c = rw (c.put_tabbed_number.ensures.0, turn_written c.args.ns.now c.loop-n.n-index c.loop-n-test.true c.from.ensures c.loop-n.out c.loop-n.to (omega arith))
 
 pub overflow_add-to : goal.overflow_add-to
-overflow_add-to c =
-    let place = turn_place c.args.ns.now c.loop-n.n-index c.loop-n-test.true c.from.ensures c.loop-n.out c.loop-n.to (omega arith) (sym c.put_tabbed_number.ensures.0 ∙ c.in_ok-to.was) in
-    omega (arith, place)
+overflow_add-to c = omega (arith, turn_place c.args.ns.now c.loop-n.n-index c.loop-n-test.true c.from.ensures c.loop-n.out c.loop-n.to (omega arith) (sym c.put_tabbed_number.ensures.0 ∙ c.unwrap-to.ensures))
 
 pub loop-n-preserved : goal.loop-n-preserved
 loop-n-preserved c =
-    let count = sym c.put_tabbed_number.ensures.0 ∙ c.in_ok-to.was in
+    let count = sym c.put_tabbed_number.ensures.0 ∙ c.unwrap-to.ensures in
     record {
       long = omega (arith, c.put_tabbed_number.auto.out);
       place = turn_place c.args.ns.now c.loop-n.n-index c.loop-n-test.true c.from.ensures c.loop-n.out c.loop-n.to (omega arith) count ∙ c.loop-n.invariant.place;
@@ -73,4 +63,4 @@ pub returns : goal.returns
 returns c =
     let none = tabbed_end c.args.ns.now c.loop-n.n-index c.loop-n-test.false in
     let place = rw none at c.loop-n.invariant.place in
-    (ap Ok (omega (arith, place)), rw none at c.loop-n.invariant.stored)
+    (omega (arith, place), rw none at c.loop-n.invariant.stored)
