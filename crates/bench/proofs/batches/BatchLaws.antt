@@ -2,17 +2,17 @@
 use mathlib.Core.Path.{◌≡◌, refl, sym, ap, ◌∙◌}
 use mathlib.Core.Bool.{Bool, true, false, cond}
 use mathlib.Core.List.{List, [], ◌∷◌, ◌++◌}
-use Prim.Native.Nat.{ℕ, suc, ◌+◌, ◌*◌, ◌/◌, ◌≤◌}
+use Prim.Native.Nat.{ℕ, suc, ◌+◌, ◌*◌, ◌/◌, ◌≤◌, min}
 use native.Mathlib.Nat.{add-zero}
 use native.Mathlib.Omega.{arith}
-use lib.ListN.{length, take, drop, length-take}
+use lib.ListN.{length, take, length-append}
 use lib.Dec.{eqb}
 use Rattle.rules.specs.Events.{all_answers}
 use Rattle.rules.specs.Facts.{one_if}
 use Rattle.rules.specs.Sound.{sound}
 use Rattle.rules.specs.Steps.{step}
 use Rattle.rules.specs.Lists.{answers}
-use Rattle.rules.specs.Runs.{zeros, batch}
+use Rattle.rules.specs.Runs.{zeros, batch, batch_most}
 use Rattle.rules.specs.declared.Board.{Board}
 use Rattle.rules.specs.declared.StepRecord.{StepRecord}
 use Rattle.rules.specs.declared.Outcome.{Outcome}
@@ -21,7 +21,7 @@ use Rattle.bench.specs.Records.{records_in}
 use Rattle.bench.specs.Counts.{zeros_of}
 use Rattle.bench.specs.declared.walks.Walked.{Walked}
 use Rattle.bench.proofs.WalkLaws.{walk_from, walk_step, walk_none, WalkTurn}
-use Rattle.bench.proofs.batches.FillLaws.{Filled}
+use Rattle.bench.proofs.RecordLaws.{records_few, records_cut}
 
 -- a walk goes on where another ended
 walk_append : (b : Board) (qs rs : List StepRecord) (z : ℕ) → walk_from (walk_from b qs z).board rs (walk_from b qs z).count ≡ walk_from b (qs ++ rs) z
@@ -61,16 +61,18 @@ zeros_few b (r ∷ rs) = by_test (eqb (step b r).answer 0) (zeros_few (step b r)
     by_test true p = omega (arith, p)
     by_test false p = omega (arith, p)
 
-pub turn_batched : {b₀ : Board} {xs : List ℕ} {b : Board} {count i z : ℕ} {x : Batch}
-    → WalkTurn b₀ xs b count i → (k : ℕ) (rs : List StepRecord) → i + k ≤ length xs / 4 → Filled xs i k rs → x ≡ batch b (take k rs) → z ≡ zeros_of x.ran → WalkTurn b₀ xs x.board (count + z) (i + k)
+pub turn_batched : {b₀ : Board} {xs : List ℕ} {b : Board} {count z : ℕ} {x : Batch} {rest : List ℕ} → WalkTurn b₀ xs b count rest → (numbers behind : List ℕ) (rs : List StepRecord)
+    → rest ≡ numbers ++ behind → {size : ℕ} → length numbers ≡ min size (length rest) → size ≡ 4 * batch_most → take (length numbers / 4) rs ≡ records_in numbers → x ≡ batch b (take (length numbers / 4) rs)
+    → z ≡ zeros_of x.ran → WalkTurn b₀ xs x.board (count + z) behind
 unfolding walk_from
-turn_batched {b₀} {xs} {b} {count} {i} {z} {x} t k rs l f e g =
-    let qs : List StepRecord = take k rs in
+turn_batched {b₀} {xs} {b} {count} {z} {x} {rest} t numbers behind rs whole {size} l room f e g =
+    let qs : List StepRecord = records_in numbers in
     let gone : record { board = x.board; count = count + z } ≡ walk_from b qs count =
-    ap (λ (j : ℕ). record { board = x.board; count = count + j }) g ∙ ap (λ (y : Batch). record { board = y.board; count = count + zeros_of y.ran }) e ∙ batch_walk b qs count in
-    let behind : List StepRecord = records_in (drop (4 * (i + k)) xs) in
+    ap (λ (j : ℕ). record { board = x.board; count = count + j }) g
+    ∙ ap (λ (y : Batch). record { board = y.board; count = count + zeros_of y.ran }) (e ∙ ap (batch b) f) ∙ batch_walk b qs count in
+    let cut : records_in rest ≡ qs ++ records_in behind =
+    ap records_in whole ∙ records_cut batch_most numbers behind (l ∙ ap (λ (k : ℕ). min k (length rest)) room ∙ ap (λ (ys : List ℕ). min (4 * batch_most) (length ys)) whole) in
     record {
-      within = l;
-      counts = omega (arith, t.counts, ap (λ (w : Walked). w.count) gone, zeros_few b qs, length-take k rs);
-      gives = ap (λ (w : Walked). walk_from w.board behind w.count) gone ∙ walk_append b qs behind count ∙ ap (λ (ps : List StepRecord). walk_from b ps count) f ∙ t.gives;
+      counts = omega (arith, t.counts, ap (λ (w : Walked). w.count) gone, zeros_few b qs, records_few numbers, ap length whole, length-append numbers behind);
+      gives = ap (λ (w : Walked). walk_from w.board (records_in behind) w.count) gone ∙ walk_append b qs (records_in behind) count ∙ ap (λ (ps : List StepRecord). walk_from b ps count) (sym cut) ∙ t.gives;
     }
