@@ -6,25 +6,19 @@ ghost use Rattle.bench.specs.Counts.{walk_of, zeros_of};
 
 use crate::records::record_of;
 use crate::walks::Walked;
-use rules::{BATCH, Board, Ran, StepRecord};
+use refusals::Refusal;
+use rules::{BATCH, Board, NO_STEP, StepRecord};
 use steps::run_batch;
-
-const BLANK: StepRecord = StepRecord {
-    kind: 0,
-    unit: 0,
-    other: 0,
-    slot: 0,
-};
 
 // The numbers of a batch, four to a record.
 const BATCH_NUMBERS: usize = 4 * BATCH;
 
-pub(crate) fn zeros_of(ran: Ran) -> u64
+pub(crate) fn zeros_of(ran: Result<usize, Refusal>) -> u64
     ensures { result ≡ zeros_of ran }
 {
     match ran {
-        Ran::Zeros(n) => n as u64,
-        Ran::Refused(_) => 0,
+        Ok(n) => n as u64,
+        Err(_) => 0,
     }
 }
 
@@ -33,7 +27,7 @@ fn records_of(numbers: &[u16]) -> [StepRecord; BATCH]
     requires { length numbers.now ≤ 4 * batch_most }
     ensures { take (length numbers.now / 4) result ≡ records_in numbers.now }
 {
-    let mut records = [BLANK; BATCH];
+    let mut records = [NO_STEP; BATCH];
     for (i, four) in numbers.chunks_exact(4).enumerate() {
         records[i] = record_of(four);
     }

@@ -24,7 +24,7 @@ pub fn bench_lent(n: u16, m: u16, d: u16, steps: &[StepRecord]) -> u64
     let mut board = tree_board(n, m, d);
     let mut count = 0;
     for record in steps {
-        count += u64::from(step_lent(&mut board, *record) == 0);
+        count += u64::from(step_lent(&mut board, *record).is_ok());
     }
     count
 }

@@ -22,7 +22,7 @@ pub(crate) fn stepped(mut board: Board, list: &[u16]) -> Walked
     for four in list.chunks_exact(4) {
         let outcome = step(board, record_of(four));
         board = outcome.board;
-        count += u64::from(outcome.answer == 0);
+        count += u64::from(outcome.answer.is_ok());
     }
     Walked { board, count }
 }

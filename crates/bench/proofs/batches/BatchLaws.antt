@@ -7,6 +7,9 @@ use native.Mathlib.Nat.{add-zero}
 use native.Mathlib.Omega.{arith}
 use lib.ListN.{length, take, length-append}
 use lib.Dec.{eqb}
+use Rattle.refusals.specs.declared.Refusal.TheVariants.{NotSound}
+use Rattle.refusals.specs.Numbers.{number_of}
+use Rattle.std.specs.Prelude.{Err}
 use Rattle.rules.specs.Events.{all_answers}
 use Rattle.rules.specs.Facts.{one_if}
 use Rattle.rules.specs.Sound.{sound}
@@ -28,11 +31,11 @@ walk_append : (b : Board) (qs rs : List StepRecord) (z : ℕ) → walk_from (wal
 walk_append b [] rs z = ap (λ (w : Walked). walk_from w.board rs w.count) (walk_none b z)
 walk_append b (q ∷ qs) rs z =
     ap (λ (w : Walked). walk_from w.board rs w.count) (sym (walk_step b q qs z))
-    ∙ walk_append (step b q).board qs rs (z + one_if (eqb (step b q).answer 0))
+    ∙ walk_append (step b q).board qs rs (z + one_if (eqb (number_of (step b q).answer) 0))
     ∙ walk_step b q (qs ++ rs) z
 
 -- on a board that is not sound no step is accepted
-unsound_step : (b : Board) (r : StepRecord) → sound b ≡ false → step b r ≡ record { answer = 30; board = b }
+unsound_step : (b : Board) (r : StepRecord) → sound b ≡ false → step b r ≡ record { answer = Err NotSound; board = b }
 unfolding step
 unsound_step b r e = simp e
 
@@ -40,7 +43,7 @@ unsound_walk : (b : Board) (rs : List StepRecord) (z : ℕ) → sound b ≡ fals
 unsound_walk b [] z e = walk_none b z
 unsound_walk b (r ∷ rs) z e =
     sym (walk_step b r rs z)
-    ∙ ap (λ (o : Outcome). walk_from o.board rs (z + one_if (eqb o.answer 0))) (unsound_step b r e)
+    ∙ ap (λ (o : Outcome). walk_from o.board rs (z + one_if (eqb (number_of o.answer) 0))) (unsound_step b r e)
     ∙ ap (λ (k : ℕ). walk_from b rs k) (add-zero z)
     ∙ unsound_walk b rs z e
 
@@ -55,7 +58,7 @@ batch_walk b rs z = by_test (sound b) refl
 zeros_few : (b : Board) (rs : List StepRecord) → zeros (answers b rs) ≤ length rs
 unfolding zeros all_answers
 zeros_few b [] = omega arith
-zeros_few b (r ∷ rs) = by_test (eqb (step b r).answer 0) (zeros_few (step b r).board rs)
+zeros_few b (r ∷ rs) = by_test (eqb (number_of (step b r).answer) 0) (zeros_few (step b r).board rs)
   where
     by_test : (t : Bool) {k l : ℕ} → k ≤ l → cond t (suc k) k ≤ suc l
     by_test true p = omega (arith, p)

@@ -3,7 +3,8 @@ use Rattle.std.proofs.Common.{ap, sym, subst, ◌∙◌, List, ℕ, arith}
 use Rattle.std.specs.Slice.Iter.{chunks_exact_rest, chunks_exact_size}
 use Rattle.rules.specs.Steps.{step}
 use Rattle.steps.proofs.StepLaws.{step_met}
-use Rattle.bench.proofs.WalkLaws.{WalkTurn, byte_one, walk_begins, turn_goes, turn_ends}
+use mir.Val.{bool_byte}
+use Rattle.bench.proofs.WalkLaws.{WalkTurn, ok_one, walk_begins, turn_goes, turn_ends}
 use Rattle.bench.proofs.walks.stepped.Goals as goal
 
 pub loop-four-init : goal.loop-four-init
@@ -18,7 +19,7 @@ loop-four-preserved c =
     let next = c.in-Some.ensures.steps in record {
       size = next.0 ∙ c.loop-four.invariant.size;
       turn = turn_goes c.loop-four.invariant.turn c.in-Some.four.now (chunks_exact_rest c.next.new.self) next.1.0 (next.1.1 ∙ c.loop-four.invariant.size)
-          (step_met _ _ c.step-outcome.result c.step-outcome.ensures ∙ ap (step c.loop-four.board) c.record_of.ensures) (c.from-count.ensures ∙ byte_one _);
+          (step_met _ _ c.step-outcome.result c.step-outcome.ensures ∙ ap (step c.loop-four.board) c.record_of.ensures) (c.from-count.ensures ∙ ap bool_byte c.is_ok.ensures.value ∙ ok_one _);
     }
 
 pub returns : goal.returns
