@@ -2,9 +2,9 @@
 use mathlib.Core.Path.{◌≡◌, refl, sym, ap, ◌∙◌}
 use mathlib.Core.Bool.{true}
 use mathlib.Core.List.{List, [], ◌∷◌}
-use Prim.Native.Nat.{ℕ, ◌+◌, ◌-◌, ◌≤◌, ◌<◌}
+use Prim.Native.Nat.{ℕ, ◌+◌, ◌≤◌, ◌<◌}
 use native.Mathlib.Omega.{arith}
-use lib.ListN.{length, take, get_or, set, length-append, length-set}
+use lib.ListN.{length, take, get_or, set, length-append}
 use lib.Seq.{sets, sets-eq, take_at, length-sets}
 use Rattle.std.specs.Prelude.{Ok}
 use Rattle.placing.specs.Placing.{wrote, written}

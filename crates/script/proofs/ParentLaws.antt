@@ -6,13 +6,13 @@ use Prim.Native.Nat.{ℕ, zero, suc, ◌+◌, ◌-◌, ◌≤◌}
 use native.Mathlib.Omega.{arith}
 use lib.ListN.{length, take, drop, replicate, length-drop}
 use lib.Seq.{drop-drop}
-use Rattle.std.specs.Prelude.{None, Result, Ok, Err}
+use Rattle.std.specs.Prelude.{None, Result, Ok}
 use Rattle.refusals.specs.declared.Refusal.{Refusal}
 use Rattle.fields.specs.Fields.{tab, end_from, field_of, field_start}
 use Rattle.numbers.specs.Numbers.{fields_of, fields_at, values, padded, room, refusal_of, numbers_at}
 use Rattle.numbers.specs.declared.Numbers.{Numbers}
 use Rattle.numbers.proofs.PlaceLaws.{fields_after}
-use Rattle.numbers.proofs.NumberLaws.{fine_drop, numbers_all, numbers_given, numbers_fit, values_drop, values_length, padded_take, padded_none}
+use Rattle.numbers.proofs.NumberLaws.{fine_drop, numbers_all, numbers_fit, values_drop, values_length, padded_take, padded_none}
 use Rattle.script.specs.Words.{word_number}
 use Rattle.script.specs.Lines.{arguments, line_by, reading, is_opening, parents_of, board_line}
 use Rattle.script.specs.declared.BoardLine.{BoardLine}

@@ -7,7 +7,7 @@ use native.Mathlib.Nat.{not-suc-le-zero}
 use native.Mathlib.Omega.{arith}
 use lib.ListN.{length, take, drop, get_or, length-append, length-map}
 use lib.Seq.{sets-eq, take_at, drop_at, length-take-le}
-use Rattle.std.specs.Prelude.{None, Result, Ok, Err}
+use Rattle.std.specs.Prelude.{None, Ok, Err}
 use Rattle.rules.specs.Facts.{equal, Claim, Claims, each, same_list}
 use Rattle.rules.specs.Actions.{kinds, action_of, is_known}
 use Rattle.rules.specs.Letters.{letters, used}

@@ -1,5 +1,5 @@
 -- `read_line`: its tests are the checks of a line, in their order.
-use mathlib.Core.Path.{sym, ap, ◌∙◌}
+use mathlib.Core.Path.{sym, ◌∙◌}
 use native.Mathlib.Omega.{arith}
 use Rattle.std.proofs.lemmas.Result.{err_from_is_err_and}
 use Rattle.fields.proofs.FieldLaws.{count_at_most}

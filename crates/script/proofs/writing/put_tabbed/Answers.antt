@@ -6,8 +6,7 @@ use native.Mathlib.Numerals.{add-one}
 use native.Mathlib.Omega.{arith}
 use lib.ListN.{length, drop, get_or, length-append, drop_of_length-le}
 use lib.Seq.{sets, drop-cons}
-use Rattle.std.proofs.Common.{Result, Ok, Err}
-use Rattle.refusals.specs.declared.Refusal.{Refusal}
+use Rattle.std.proofs.Common.{Ok}
 use Rattle.decimal.specs.Spelling.{spelled}
 use Rattle.fields.specs.Fields.{tab}
 use Rattle.placing.specs.Placing.{wrote, written}

@@ -1,5 +1,4 @@
 -- `step_line`: the text is put together whole, and `put_bytes` writes it or refuses.
-use native.Mathlib.Omega.{arith}
 use lib.ListN.{replicate}
 use Rattle.script.proofs.LineLaws.{text_taken}
 use Rattle.script.proofs.writing.step_line.Goals as goal
