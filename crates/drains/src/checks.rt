@@ -8,7 +8,7 @@ use board::{is_sound, some_active, some_work};
 use refusals::Refusal;
 use rules::{Board, Slot};
 
-// The lowest free slot.
+// The lowest free slot; 256, a number that no board has, where none is free: the definition says so, and what asks compares with m.
 #[tactic(auto, unfolding(crate::specs::Calls::lowest_free))]
 pub(crate) fn free_slot(slots: &[Slot; 256]) -> u16
     ensures { result ≡ lowest_free slots.now }
