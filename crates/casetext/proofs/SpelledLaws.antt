@@ -1,13 +1,13 @@
 -- A number's digits here are those that std writes.
-use Rattle.std.proofs.Common.{◌≡◌, ℕ, ◌+◌, ◌<◌, ◌^◌, length, get_or, sym, ⊎_elim, arith, rules}
+use Rattle.std.proofs.Common.{◌≡◌, ℕ, ◌<◌, ◌^◌, length, get_or, sym, ⊎_elim, arith, rules}
 use Rattle.std.proofs.lemmas.Bool.{cases_lt}
 use Rattle.std.specs.Fmt.{decimal}
 use Rattle.std.proofs.lemmas.Fmt.{decimal-digits_value}
 use Rattle.std.proofs.lemmas.Str.Parse.{IsNumeralModel, numerals_by_fold}
 use mathlib.Core.Bool.{true}
 use mathlib.Core.List.{List}
-use Rattle.decimal.specs.Spelling.{spelled, digit_count}
-use Rattle.decimal.specs.Reading.{is_digit, all_digits, value_from}
+use Rattle.decimal.specs.Spelling.{spelled}
+use Rattle.decimal.specs.Reading.{all_digits, value_from}
 use Rattle.decimal.proofs.CountLaws.{count_some}
 use Rattle.decimal.proofs.SpellLaws.{spelled_digits, spelled_length}
 use Rattle.decimal.proofs.RoundTrip.{value_spelled, spelled_lead}
