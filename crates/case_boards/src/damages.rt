@@ -23,7 +23,7 @@ fn unit_numbers(own: u16) -> [u16; 4] {
     [0, 1, own, 65535]
 }
 
-fn units(x: UnitRecord) -> [UnitRecord; 8] {
+fn damaged_units(x: UnitRecord) -> [UnitRecord; 8] {
     [
         UnitRecord {
             weight: x.weight.wrapping_add(1),
@@ -79,10 +79,8 @@ impl<'a, P: Print> Damages<'a, P> {
 
     pub(crate) fn balanced(to: &'a P, base: Board) -> Self {
         Damages {
-            to,
-            base,
             is_balanced: true,
-            next: 0,
+            ..Damages::of(to, base)
         }
     }
 
@@ -111,10 +109,8 @@ impl<'a, P: Print> Damages<'a, P> {
         let b = self.base;
         for i in 0..64u16 {
             for parent in unit_numbers(i) {
-                self.row(Board {
-                    parents: with(b.parents, usize::from(i), parent),
-                    ..b
-                })?;
+                let parents = with(b.parents, usize::from(i), parent);
+                self.row(Board { parents, ..b })?;
             }
         }
         Ok(())
@@ -123,17 +119,10 @@ impl<'a, P: Print> Damages<'a, P> {
     // Units 0 to 6 and the last.
     fn units(&mut self) -> io::Result<()> {
         let b = self.base;
-        for (i, unit) in b
-            .units
-            .iter()
-            .enumerate()
-            .filter(|(i, _)| *i < 7 || *i == 63)
-        {
-            for damaged in units(*unit) {
-                self.row(Board {
-                    units: with(b.units, i, damaged),
-                    ..b
-                })?;
+        for i in [0, 1, 2, 3, 4, 5, 6, 63] {
+            for x in damaged_units(b.units[i]) {
+                let units = with(b.units, i, x);
+                self.row(Board { units, ..b })?;
             }
         }
         Ok(())
@@ -141,32 +130,25 @@ impl<'a, P: Print> Damages<'a, P> {
 
     fn slot(&mut self, j: usize, y: Slot) -> io::Result<()> {
         let b = self.base;
-        self.row(Board {
-            slots: with(b.slots, j, y),
-            ..b
-        })
+        let slots = with(b.slots, j, y);
+        self.row(Board { slots, ..b })
     }
 
     // Slots 0 to 5 and the last.
     fn slots(&mut self) -> io::Result<()> {
-        let b = self.base;
-        for (j, slot) in b
-            .slots
-            .iter()
-            .enumerate()
-            .filter(|(j, _)| *j < 6 || *j == 255)
-        {
+        for j in [0, 1, 2, 3, 4, 5, 255] {
+            let slot = self.base.slots[j];
             for kind in KINDS {
-                self.slot(j, Slot { kind, ..*slot })?;
+                self.slot(j, Slot { kind, ..slot })?;
             }
             for from in unit_numbers(5) {
-                self.slot(j, Slot { from, ..*slot })?;
+                self.slot(j, Slot { from, ..slot })?;
             }
             for to in unit_numbers(5) {
-                self.slot(j, Slot { to, ..*slot })?;
+                self.slot(j, Slot { to, ..slot })?;
             }
             for weight in [0, slot.weight.wrapping_add(1), GRANT] {
-                self.slot(j, Slot { weight, ..*slot })?;
+                self.slot(j, Slot { weight, ..slot })?;
             }
         }
         Ok(())
