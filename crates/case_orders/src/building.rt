@@ -1,21 +1,20 @@
 // What a line does to the board, with nothing told.
-use casetext::Step;
-use rules::{Board, StepRecord};
-use script::{Reading, read_board, read_line};
+use rules::{Board, NO_STEP, StepRecord};
+use script::{Line, read_board, read_step};
 
 // Every board refuses a line that is no step, and stays as it was.
 pub(crate) fn step_of(line: &[u8]) -> StepRecord {
-    match read_line(line, false) {
-        Reading::Asks(step) => step,
-        _ => Step::Unknown(0).into(),
-    }
+    read_step(line).unwrap_or(NO_STEP)
 }
 
 // A line that opens no board is a step.
 pub(crate) fn built(b: Board, line: &[u8]) -> Board {
     let read = read_board(line);
     match read.reading {
-        Reading::Opens(m, d, count) => board::open(m, d, &read.parents[..usize::from(count)]).board,
+        Ok(Line::Opens(m, d, count)) => {
+            let parents = &read.parents[..usize::from(count)];
+            board::open(m, d, parents).board
+        }
         _ => steps::step(b, step_of(line)).board,
     }
 }

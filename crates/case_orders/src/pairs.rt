@@ -1,6 +1,7 @@
 // A pair of steps, taken in both orders on one board.
 use crate::building::step_of;
 use crate::same::same_boards;
+use refusals::number_of;
 use rules::{Board, StepRecord};
 use std::io;
 
@@ -8,7 +9,7 @@ use std::io;
 fn in_order(to: &impl Print, b: Board, first: StepRecord, second: StepRecord) -> io::Result<Board> {
     let x = steps::step(b, first);
     let y = steps::step(x.board, second);
-    print!(to; "\t{}\t{}", x.answer, y.answer)?;
+    print!(to; "\t{}\t{}", number_of(x.answer), number_of(y.answer))?;
     Ok(y.board)
 }
 
