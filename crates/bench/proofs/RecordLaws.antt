@@ -1,37 +1,49 @@
--- A list of numbers as records, from a record on.
+-- A list of numbers as records: the first of them, and those behind.
 use mathlib.Core.Path.{◌≡◌, refl, sym, ap, ◌∙◌}
-use mathlib.Core.List.{List, [], ◌∷◌}
-use Prim.Native.Nat.{ℕ, suc, ◌+◌, ◌*◌, ◌/◌, ◌≤◌, ◌<◌}
+use mathlib.Core.List.{List, [], ◌∷◌, ◌++◌, append-nil}
+use Prim.Native.Nat.{ℕ, zero, suc, ◌*◌, ◌≤◌, ◌<◌, min}
 use native.Mathlib.Omega.{arith}
-use lib.ListN.{length, get_or, drop, length-drop}
-use lib.Seq.{drop-cons}
-use Rattle.bench.specs.Records.{records_in, record_at}
+use lib.ListN.{length, length-append}
+use Rattle.rules.specs.declared.StepRecord.{StepRecord}
+use Rattle.bench.specs.Records.{records_in, record_of}
 
--- the numbers of a record and the numbers behind it
-numbers_here : (xs : List ℕ) (j : ℕ) → j + 3 < length xs → drop j xs ≡ get_or xs j 0 ∷ get_or xs (j + 1) 0 ∷ get_or xs (j + 2) 0 ∷ get_or xs (j + 3) 0 ∷ drop (j + 4) xs
-numbers_here xs j l =
-    next j (j + 1) (omega arith) (omega arith)
-    ∙ ap (λ (ys : List ℕ). get_or xs j 0 ∷ ys)
-    (next (j + 1) (j + 2) (omega arith) (omega arith)
-    ∙ ap (λ (ys : List ℕ). get_or xs (j + 1) 0 ∷ ys)
-    (next (j + 2) (j + 3) (omega arith) (omega arith) ∙ ap (λ (ys : List ℕ). get_or xs (j + 2) 0 ∷ ys) (next (j + 3) (j + 4) (omega arith) (omega arith))))
-  where
-    next : (k after : ℕ) → after ≡ suc k → k < length xs → drop k xs ≡ get_or xs k 0 ∷ drop after xs
-    next k after e m = drop-cons xs k 0 m ∙ ap (λ (i : ℕ). get_or xs k 0 ∷ drop i xs) (sym e)
-
-pub records_here : (xs : List ℕ) (i : ℕ) → 4 * i + 3 < length xs → records_in (drop (4 * i) xs) ≡ record_at xs i ∷ records_in (drop (4 * (i + 1)) xs)
+pub records_four : (four rest : List ℕ) → length four ≡ 4 → records_in (four ++ rest) ≡ record_of four ∷ records_in rest
 unfolding records_in
-records_here xs i l =
-    let e : 4 * i + 4 ≡ 4 * (i + 1) = omega arith in
-    ap records_in (numbers_here xs (4 * i) l) ∙ ap (λ (j : ℕ). record_at xs i ∷ records_in (drop j xs)) e
+records_four [] rest e = absurd (omega (arith, e))
+records_four (k ∷ []) rest e = absurd (omega (arith, e))
+records_four (k ∷ u ∷ []) rest e = absurd (omega (arith, e))
+records_four (k ∷ u ∷ v ∷ []) rest e = absurd (omega (arith, e))
+records_four (k ∷ u ∷ v ∷ s ∷ []) rest e = refl
+records_four (k ∷ u ∷ v ∷ s ∷ x ∷ more) rest e = absurd (omega (arith, e))
 
-few_none : (xs : List ℕ) → length xs < 4 → records_in xs ≡ []
+pub records_none : (xs : List ℕ) → length xs < 4 → records_in xs ≡ []
 unfolding records_in
-few_none [] l = refl
-few_none (k ∷ []) l = refl
-few_none (k ∷ u ∷ []) l = refl
-few_none (k ∷ u ∷ v ∷ []) l = refl
-few_none (k ∷ u ∷ v ∷ s ∷ more) l = absurd (omega arith)
+records_none [] l = refl
+records_none (k ∷ []) l = refl
+records_none (k ∷ u ∷ []) l = refl
+records_none (k ∷ u ∷ v ∷ []) l = refl
+records_none (k ∷ u ∷ v ∷ s ∷ more) l = absurd (omega (arith, l))
 
-pub records_none : (xs : List ℕ) (i : ℕ) → length xs / 4 ≤ i → records_in (drop (4 * i) xs) ≡ []
-records_none xs i l = few_none (drop (4 * i) xs) (omega (arith, length-drop (4 * i) xs))
+pub records_few : (xs : List ℕ) → 4 * length (records_in xs) ≤ length xs
+unfolding records_in
+records_few [] = omega arith
+records_few (k ∷ []) = omega arith
+records_few (k ∷ u ∷ []) = omega arith
+records_few (k ∷ u ∷ v ∷ []) = omega arith
+records_few (k ∷ u ∷ v ∷ s ∷ more) = omega (arith, records_few more)
+
+-- ---- numbers of whole records, and others behind them
+records_append : (k : ℕ) (xs ys : List ℕ) → length xs ≡ 4 * k → records_in (xs ++ ys) ≡ records_in xs ++ records_in ys
+unfolding records_in
+records_append k [] ys e = refl
+records_append zero (x ∷ xs) ys e = absurd (omega (arith, e))
+records_append (suc k) (x ∷ []) ys e = absurd (omega (arith, e))
+records_append (suc k) (x ∷ y ∷ []) ys e = absurd (omega (arith, e))
+records_append (suc k) (x ∷ y ∷ z ∷ []) ys e = absurd (omega (arith, e))
+records_append (suc k) (x ∷ y ∷ z ∷ w ∷ more) ys e = ap (λ (rs : List StepRecord). record { kind = x; unit = y; other = z; slot = w } ∷ rs) (records_append k more ys (omega (arith, e)))
+
+-- a cut after whole records, or at the end
+pub records_cut : (k : ℕ) (numbers behind : List ℕ) → length numbers ≡ min (4 * k) (length (numbers ++ behind)) → records_in (numbers ++ behind) ≡ records_in numbers ++ records_in behind
+unfolding records_in
+records_cut k numbers [] e = ap records_in (append-nil numbers) ∙ sym (append-nil (records_in numbers))
+records_cut k numbers (x ∷ more) e = records_append k numbers (x ∷ more) (omega (arith, e, length-append numbers (x ∷ more)))

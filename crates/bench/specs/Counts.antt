@@ -1,13 +1,12 @@
 -- What the loops count.
-use Rattle.std.specs.Prelude.{List, [], ◌∷◌, ℕ, ◌+◌}
+use Rattle.std.specs.Prelude.{List, [], ◌∷◌, ℕ, ◌+◌, Result, Ok, Err}
 use Rattle.rules.specs.Facts.{one_if}
 use Rattle.rules.specs.Sound.{sound}
 use Rattle.rules.specs.Lists.{after, answers}
 use Rattle.rules.specs.Runs.{zeros}
 use Rattle.rules.specs.declared.Board.{Board}
 use Rattle.rules.specs.declared.StepRecord.{StepRecord}
-use Rattle.rules.specs.declared.Ran.{Ran}
-use Rattle.rules.specs.declared.Ran.TheVariants.{Zeros, Refused}
+use Rattle.refusals.specs.declared.Refusal.{Refusal}
 use Rattle.bench.specs.Trees.{tree_board}
 use Rattle.bench.specs.declared.walks.Walked.{Walked}
 
@@ -20,9 +19,9 @@ unfoldable pub walk_of : Board → List StepRecord → Walked
 walk_of b rs = record { board = after b rs; count = zeros (answers b rs) }
 
 -- how many steps a run or a batch accepted: none where it is refused
-abbrev pub zeros_of : Ran → ℕ
-zeros_of (Zeros n) = n
-zeros_of (Refused k) = 0
+abbrev pub zeros_of : Result ℕ Refusal → ℕ
+zeros_of (Ok n) = n
+zeros_of (Err k) = 0
 
 -- a board with its delay set
 abbrev pub with_delay : Board → ℕ → Board

@@ -1,64 +1,48 @@
 // The run over a batch, over a list of numbers read as records: a batch at a time.
-ghost use Rattle.std.specs.Prelude.{◌≡◌, ◌++◌, ◌+◌, ◌*◌, ◌/◌, ◌≤◌, min, length, take, drop};
+ghost use Rattle.std.specs.Prelude.{◌≡◌, ◌*◌, ◌/◌, ◌≤◌, length, take};
 ghost use Rattle.rules.specs.Runs.{batch_most};
 ghost use Rattle.bench.specs.Records.{records_in};
 ghost use Rattle.bench.specs.Counts.{walk_of, zeros_of};
 
-use crate::records::record_at;
+use crate::records::record_of;
 use crate::walks::Walked;
-use rules::{BATCH, Board, Ran, StepRecord};
+use refusals::Refusal;
+use rules::{BATCH, Board, NO_STEP, StepRecord};
 use steps::run_batch;
 
-fn batch_size(left: usize) -> usize
-    ensures { result ≡ min left batch_most }
-{
-    if left < BATCH {
-        return left;
-    }
-    BATCH
-}
+// The numbers of a batch, four to a record.
+const BATCH_NUMBERS: usize = 4 * BATCH;
 
-pub(crate) fn zeros_of(ran: Ran) -> u64
+pub(crate) fn zeros_of(ran: Result<usize, Refusal>) -> u64
     ensures { result ≡ zeros_of ran }
 {
     match ran {
-        Ran::Zeros(n) => n as u64,
-        Ran::Refused(_) => 0,
+        Ok(n) => n as u64,
+        Err(_) => 0,
     }
 }
 
-// So many records from one on; with those behind them they are all from there on.
-fn records_from(list: &[u16], from: usize, count: usize) -> [StepRecord; BATCH]
-    requires { (count ≤ batch_most) × (from + count ≤ length list.now / 4) }
-    ensures { take count result ++ records_in (drop (4 * (from + count)) list.now) ≡ records_in (drop (4 * from) list.now) }
+// The records of a batch, at the front of as many as a batch may have.
+fn records_of(numbers: &[u16]) -> [StepRecord; BATCH]
+    requires { length numbers.now ≤ 4 * batch_most }
+    ensures { take (length numbers.now / 4) result ≡ records_in numbers.now }
 {
-    let blank = StepRecord {
-        kind: 0,
-        unit: 0,
-        other: 0,
-        slot: 0,
-    };
-    let mut records = [blank; BATCH];
-    for i in 0..count {
-        records[i] = record_at(list, from + i);
+    let mut records = [NO_STEP; BATCH];
+    for (i, four) in numbers.chunks_exact(4).enumerate() {
+        records[i] = record_of(four);
     }
     records
 }
 
 // One batch after the other, each on the board that the one before it gave.
-pub fn batched(mut b: Board, list: &[u16]) -> Walked
-    ensures { result ≡ walk_of b (records_in list.now) }
+pub fn batched(mut board: Board, list: &[u16]) -> Walked
+    ensures { result ≡ walk_of board (records_in list.now) }
 {
-    let n = list.len() / 4;
-    let mut count: u64 = 0;
-    let mut i = 0;
-    while i < n {
-        let k = batch_size(n - i);
-        let done = run_batch(b, records_from(list, i, k), k);
-        b = done.board;
-        let ran = done.ran;
-        count += zeros_of(ran);
-        i += k;
+    let mut count = 0;
+    for numbers in list.chunks(BATCH_NUMBERS) {
+        let done = run_batch(board, records_of(numbers), numbers.len() / 4);
+        board = done.board;
+        count += zeros_of(done.ran);
     }
-    Walked { board: b, count }
+    Walked { board, count }
 }

@@ -5,7 +5,6 @@ ghost use Rattle.bench.specs.Trees.{tree_board};
 ghost use Rattle.bench.specs.Counts.{accepted_of, zeros_of};
 
 use crate::batches::zeros_of;
-use crate::one_if;
 use crate::trees::tree_board;
 use rules::StepRecord;
 use steps::{run, step_lent};
@@ -14,22 +13,18 @@ use steps::{run, step_lent};
 pub fn bench_run(n: u16, m: u16, d: u16, steps: &[StepRecord], answers: &mut [u16]) -> u64
     ensures { (result ≡ zeros_of (run_answer (tree_board n m d) steps.now answers.old)) × (answers.new ≡ run_buffer (tree_board n m d) steps.now answers.old) }
 {
-    let mut c = tree_board(n, m, d);
-    let ran = run(&mut c, steps, answers);
-    zeros_of(ran)
+    let mut board = tree_board(n, m, d);
+    zeros_of(run(&mut board, steps, answers))
 }
 
 // The step by step loop, which finds its board advanced where it was.
 pub fn bench_lent(n: u16, m: u16, d: u16, steps: &[StepRecord]) -> u64
     ensures { result ≡ accepted_of n m d steps.now }
 {
-    let mut c = tree_board(n, m, d);
-    let mut count: u64 = 0;
-    let mut i: usize = 0;
-    while i < steps.len() {
-        let k = step_lent(&mut c, steps[i]);
-        count += one_if(k == 0);
-        i += 1;
+    let mut board = tree_board(n, m, d);
+    let mut count = 0;
+    for record in steps {
+        count += u64::from(step_lent(&mut board, *record).is_ok());
     }
     count
 }

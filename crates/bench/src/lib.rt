@@ -9,7 +9,6 @@ mod trees;
 mod walks;
 
 ghost use Rattle.std.specs.Prelude.{◌≡◌};
-ghost use Rattle.rules.specs.Facts.{one_if};
 ghost use Rattle.rules.specs.Lists.{after};
 ghost use Rattle.bench.specs.Trees.{tree_board};
 ghost use Rattle.bench.specs.Records.{records_in};
@@ -21,16 +20,6 @@ pub use lent::{bench_lent, bench_run};
 pub use trees::tree_board;
 pub use walks::Walked;
 use walks::stepped;
-
-// What a test adds to a count.
-pub(crate) fn one_if(t: bool) -> u64
-    ensures { result ≡ one_if t }
-{
-    if t {
-        return 1;
-    }
-    0
-}
 
 // How many steps of a list are accepted, by the step by value.
 pub fn bench_steps(n: u16, m: u16, d: u16, list: &[u16]) -> u64

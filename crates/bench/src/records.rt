@@ -1,18 +1,20 @@
 // Step records out of a list of numbers, four to a record.
-ghost use Rattle.std.specs.Prelude.{◌≡◌, ◌+◌, ◌*◌, ◌<◌, length};
-ghost use Rattle.bench.specs.Records.{record_at};
+ghost use Rattle.std.specs.Prelude.{◌≡◌, length};
+ghost use Rattle.bench.specs.Records.{record_of};
 
 use rules::StepRecord;
 
-pub(crate) fn record_at(list: &[u16], i: usize) -> StepRecord
-    requires { 4 * i + 3 < length list.now }
-    ensures { result ≡ record_at list.now i }
+pub(crate) fn record_of(four: &[u16]) -> StepRecord
+    requires { length four.now ≡ 4 }
+    ensures { result ≡ record_of four.now }
 {
-    let at = 4 * i;
+    let &[kind, unit, other, slot] = four else {
+        unreachable!()
+    };
     StepRecord {
-        kind: list[at],
-        unit: list[at + 1],
-        other: list[at + 2],
-        slot: list[at + 3],
+        kind,
+        unit,
+        other,
+        slot,
     }
 }

@@ -1,5 +1,5 @@
 // Boards to measure on: fresh, with the units in a binary tree.
-ghost use Rattle.std.specs.Prelude.{◌≡◌, ◌-◌, min};
+ghost use Rattle.std.specs.Prelude.{◌≡◌};
 ghost use Rattle.bench.specs.Trees.{tree_board};
 
 use board::open;
@@ -12,24 +12,10 @@ const TREE: [u16; 63] = [
     26, 27, 27, 28, 28, 29, 29, 30, 30, 31,
 ];
 
-// How many parents a board of n units has, at most all that there are.
-fn parent_count(n: u16) -> usize
-    ensures { result ≡ min (n - 1) 63 }
-{
-    if n < 1 {
-        return 0;
-    }
-    if n > 64 {
-        return 63;
-    }
-    n as usize - 1
-}
-
-// A fresh board of n units in a binary tree, with m slots and the delay d.
+// A fresh board of n units in a binary tree, at most 64, with m slots and the delay d.
 pub fn tree_board(n: u16, m: u16, d: u16) -> Board
     ensures { result ≡ tree_board n m d }
 {
-    let k = parent_count(n);
-    let list = TREE;
-    open(m, d, &list[0..k]).board
+    let parents = usize::from(n.saturating_sub(1)).min(TREE.len());
+    open(m, d, &TREE[..parents]).board
 }

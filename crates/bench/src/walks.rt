@@ -3,8 +3,7 @@ ghost use Rattle.std.specs.Prelude.{◌≡◌};
 ghost use Rattle.bench.specs.Records.{records_in};
 ghost use Rattle.bench.specs.Counts.{walk_of};
 
-use crate::one_if;
-use crate::records::record_at;
+use crate::records::record_of;
 use rules::Board;
 use steps::step;
 
@@ -16,14 +15,14 @@ pub struct Walked {
 }
 
 // One step after the other, each on the board that the one before it gave.
-pub(crate) fn stepped(mut b: Board, list: &[u16]) -> Walked
-    ensures { result ≡ walk_of b (records_in list.now) }
+pub(crate) fn stepped(mut board: Board, list: &[u16]) -> Walked
+    ensures { result ≡ walk_of board (records_in list.now) }
 {
-    let mut count: u64 = 0;
-    for i in 0..list.len() / 4 {
-        let o = step(b, record_at(list, i));
-        b = o.board;
-        count += one_if(o.answer == 0);
+    let mut count = 0;
+    for four in list.chunks_exact(4) {
+        let outcome = step(board, record_of(four));
+        board = outcome.board;
+        count += u64::from(outcome.answer.is_ok());
     }
-    Walked { board: b, count }
+    Walked { board, count }
 }

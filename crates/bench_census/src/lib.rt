@@ -6,7 +6,8 @@ ghost use Rattle.std.specs.Prelude.{◌≡◌};
 ghost use Rattle.census.specs.Counting.{census};
 ghost use Rattle.bench_census.specs.Told.{count_of_sort, census_told};
 
-use census::{Counted, Ends, census};
+use census::{Ends, census};
+use refusals::Refusal;
 
 fn count_of(e: Ends, sort: u16) -> u32
     ensures { result ≡ count_of_sort sort e }
@@ -18,13 +19,13 @@ fn count_of(e: Ends, sort: u16) -> u32
     }
 }
 
-// One number, since no enum is passed to another language.
-fn census_told(c: Counted, sort: u16) -> u64
+// One number, and the sort another, since no enum is passed to another language.
+fn census_told(c: Result<Ends, Refusal>, sort: u16) -> u64
     ensures { result ≡ census_told sort c }
 {
     match c {
-        Counted::Lists(e) => count_of(e, sort) as u64,
-        Counted::Refused(k) => k as u64,
+        Ok(e) => u64::from(count_of(e, sort)),
+        Err(k) => u64::from(k.number()),
     }
 }
 

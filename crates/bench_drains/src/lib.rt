@@ -7,7 +7,8 @@ ghost use Rattle.bench_drains.specs.Told.{stepped_board, drain_told};
 
 use bench::batched;
 use board::open;
-use drains::{Longest, longest_drain, longest_length};
+use drains::{longest_drain, longest_length};
+use refusals::Refusal;
 use rules::{Board, StepRecord};
 
 // The board that is opened, after a list of steps.
@@ -19,12 +20,12 @@ fn board_after(m: u16, d: u16, parents: &[u16], steps: &[u16]) -> Board
 }
 
 // The length, or the number that refused to tell it with 4294967296 more.
-fn drain_told(r: Longest) -> u64
+fn drain_told(r: Result<usize, Refusal>) -> u64
     ensures { result ≡ drain_told r }
 {
     match r {
-        Longest::Steps(n) => n as u64,
-        Longest::Refused(k) => 4294967296 + k as u64,
+        Ok(n) => n as u64,
+        Err(k) => 4294967296 + u64::from(k.number()),
     }
 }
 
@@ -33,8 +34,7 @@ fn drain_told(r: Longest) -> u64
 pub extern "C" fn bench_length(m: u16, d: u16, parents: &[u16], steps: &[u16]) -> u64
     ensures { result ≡ drain_told (length_answer (stepped_board m d parents.now steps.now)) }
 {
-    let b = board_after(m, d, parents, steps);
-    drain_told(longest_length(b))
+    drain_told(longest_length(board_after(m, d, parents, steps)))
 }
 
 // And the drain itself, in a lent list.
@@ -48,7 +48,5 @@ pub extern "C" fn bench_longest(
 ) -> u64
     ensures { (result ≡ drain_told (list_answer (stepped_board m d parents.now steps.now) (length list.old))) × (list.new ≡ list_left (stepped_board m d parents.now steps.now) list.old) }
 {
-    let b = board_after(m, d, parents, steps);
-    let r = longest_drain(b, list);
-    drain_told(r)
+    drain_told(longest_drain(board_after(m, d, parents, steps), list))
 }

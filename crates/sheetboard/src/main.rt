@@ -64,6 +64,7 @@ fn list<W: Write>(to: &mut Output<W>, script: &[u8]) -> io::Result<()>
 
 // Reads a script and lists it; where a read failed, nothing. The buffer has one byte more than a script may have, so reading stops once it is
 // clear that the script is too long.
+// `sheetdrain` has lines like these: one public function for both would take a closure, and a `requires` that it may be called.
 fn list_input<R: Read, W: Write>(input: &mut R, to: &mut Output<W>) -> Result<(), Failure>
     requires { to.old.handed ≡ 0 }
     ensures handed { Lists (R.remaining input.old) result to.new.handed }

@@ -39,6 +39,7 @@ fn tell<W: Write>(to: &mut W, script: &[u8]) -> io::Result<()>
 
 // Reads a script and tells of it; where a read failed, nothing. The buffer has one byte more than a script may have, so reading stops once it
 // is clear that the script is too long.
+// `sheetboard` has lines like these: one public function for both would take a closure, and a `requires` that it may be called.
 fn tell_input<R: Read, W: Write>(input: &mut R, to: &mut W) -> Result<(), Failure>
     ensures { Arrives script_line (R.remaining input.old) (W.contents to.old) (W.contents to.new) result }
 {

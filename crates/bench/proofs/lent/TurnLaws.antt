@@ -8,6 +8,9 @@ use mathlib.Core.List.{List, [], ◌∷◌}
 use lib.Dec.{eqb}
 use lib.ListN.{length, get_or, drop, drop_of_length-le}
 use lib.Seq.{drop-cons}
+use Rattle.refusals.specs.declared.Refusal.{Refusal}
+use Rattle.refusals.specs.Numbers.{number_of}
+use Rattle.std.specs.Prelude.{Result}
 use Rattle.rules.specs.Events.{all_answers}
 use Rattle.rules.specs.Facts.{one_if}
 use Rattle.rules.specs.Steps.{step}
@@ -19,9 +22,9 @@ use Rattle.steps.specs.NoStep.{no_step}
 use Rattle.board.proofs.SlotLaws.{one_at_most}
 use Rattle.steps.proofs.BatchLaws.{one_more}
 
-step_counted : (b : Board) (r : StepRecord) (rs : List StepRecord) (z : ℕ) → (z + one_if (eqb (step b r).answer 0)) + zeros (answers (step b r).board rs) ≡ z + zeros (answers b (r ∷ rs))
+step_counted : (b : Board) (r : StepRecord) (rs : List StepRecord) (z : ℕ) → (z + one_if (eqb (number_of (step b r).answer) 0)) + zeros (answers (step b r).board rs) ≡ z + zeros (answers b (r ∷ rs))
 unfolding all_answers zeros
-step_counted b r rs z = one_more z (zeros (answers (step b r).board rs)) (eqb (step b r).answer 0)
+step_counted b r rs z = one_more z (zeros (answers (step b r).board rs)) (eqb (number_of (step b r).answer) 0)
 
 none_counted : (b : Board) (z : ℕ) → z + zeros (answers b []) ≡ z
 unfolding all_answers zeros
@@ -38,12 +41,12 @@ module _ {h : Board} {rs : List StepRecord} {b : Board} {z i : ℕ} (t : LentTur
   abbrev here : StepRecord
   here = get_or rs i no_step
 
-  pub lent_goes : i < length rs → {k : ℕ} {c : Board} {x : ℕ} → k ≡ (step b here).answer → c ≡ (step b here).board → x ≡ one_if (eqb k 0) → LentTurn h rs c (z + x) (i + 1)
+  pub lent_goes : i < length rs → {k : Result (Unit {0}) Refusal} {c : Board} {x : ℕ} → k ≡ (step b here).answer → c ≡ (step b here).board → x ≡ one_if (eqb (number_of k) 0) → LentTurn h rs c (z + x) (i + 1)
   lent_goes l {k} {c} {x} k-is c-is x-is = record {
     within = add-one-le l;
-    few = omega (arith, t.few, x-is, one_at_most (eqb k 0));
+    few = omega (arith, t.few, x-is, one_at_most (eqb (number_of k) 0));
     gives =
-        (λ j. (z + (x-is ∙ ap (λ (a : ℕ). one_if (eqb a 0)) k-is) j) + zeros (answers (c-is j) (drop (add-one i j) rs)))
+        (λ j. (z + (x-is ∙ ap (λ (a : Result (Unit {0}) Refusal). one_if (eqb (number_of a) 0)) k-is) j) + zeros (answers (c-is j) (drop (add-one i j) rs)))
         ∙ step_counted b here (drop (suc i) rs) z
         ∙ ap (λ (qs : List StepRecord). z + zeros (answers b qs)) (sym (drop-cons rs i no_step l))
         ∙ t.gives;

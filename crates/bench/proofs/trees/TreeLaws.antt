@@ -8,11 +8,11 @@ use Rattle.rules.specs.Opening.{opening}
 use Rattle.rules.proofs.SoundLaws.{below_or_not}
 use Rattle.bench.specs.Trees.{tree, tree_board}
 
-pub front_opened : (n m d k : ℕ) → k ≡ min (n - 1) 63 → (opening m d (take (k - 0) tree)).board ≡ tree_board n m d
+pub front_opened : (n m d k : ℕ) → k ≡ min (n - 1) 63 → (opening m d (take k tree)).board ≡ tree_board n m d
 unfolding tree_board
 front_opened n m d k e = ap (λ ps. (opening m d ps).board) same
   where
-    same : take (k - 0) tree ≡ take (n - 1) tree
+    same : take k tree ≡ take (n - 1) tree
     same =
-        below_or_not (n - 1) 63 (λ p. let f : k - 0 ≡ n - 1 = omega (arith, e, p) in ap (λ (j : ℕ). take j tree) f)
-        (λ p. take_all (k - 0) tree (omega (arith, e, p)) ∙ sym (take_all (n - 1) tree p))
+        below_or_not (n - 1) 63 (λ p. let f : k ≡ n - 1 = omega (arith, e, p) in ap (λ (j : ℕ). take j tree) f)
+        (λ p. take_all k tree (omega (arith, e, p)) ∙ sym (take_all (n - 1) tree p))

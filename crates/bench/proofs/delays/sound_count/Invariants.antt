@@ -2,5 +2,5 @@
 use Rattle.bench.proofs.delays.DelayLaws.{DelayTurn}
 use Rattle.bench.proofs.delays.sound_count.Given as goal
 
-abbrev pub invariant-loop-i : goal.invariant-loop-i
-invariant-loop-i l = DelayTurn l.fn.b l.delays l.b l.count l.i
+abbrev pub invariant-loop-delay : goal.invariant-loop-delay
+invariant-loop-delay l = DelayTurn l.fn.board l.delays l.board l.count l.delay-index
