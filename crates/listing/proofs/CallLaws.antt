@@ -8,8 +8,7 @@ use borrow.Author.Tests.{le-leb, leb-false, not-true}
 use lib.ListN.{length, length-append}
 use lib.Dec.{leb}
 use lib.Seq.{sets}
-use Rattle.rules.specs.Facts.{Claims, Check, check, holds, test, judge}
-use Rattle.rules.specs.Sound.{sound}
+use Rattle.rules.specs.Facts.{Claims, Check, check, test, judge}
 use Rattle.rules.proofs.FactLaws.{true_or_false, asked, judge_passed, true_not_false}
 use Rattle.rules.proofs.SoundLaws.{sound_tested, below_or_not}
 use Rattle.fields.proofs.Cases.{by_test, by_bool, cond_second}
@@ -17,8 +16,9 @@ use Rattle.listing.specs.Bounds.{longest_piece, longest_line, ListingBound}
 use Rattle.listing.specs.Parts.{Piece, beginning, ended, piece, rest_from, part_within, part, part_checks, call_text, call_next, joined, cursor_after, pieces_within, pieces, AllAtLeast, PartsJoin, stops, part_of, part_buffer}
 use Rattle.listing.proofs.PieceLaws.{turns_left, piece_fewer, no_turns, turns_most, rest_beginning, rest_end, rest_piece}
 use Rattle.listing.proofs.PartLaws.{goes_on, part_each, part_rest, part_fewer_turns, part_ends, empty_stops}
-use Rattle.listing.proofs.LengthLaws.{Kept, not_begun_kept, part_kept, piece_most}
+use Rattle.listing.proofs.LengthLaws.{Kept, part_kept, piece_most}
 use Rattle.listing.specs.declared.Cursor.{Cursor}
+use Rattle.listing.specs.declared.Cursor.TheVariants.{Beginning, Behind}
 use Rattle.placing.specs.Placing.{Writes}
 use Rattle.placing.specs.declared.Wrote.{Wrote}
 use Rattle.placing.specs.declared.Wrote.TheVariants.{Count, Refused}
@@ -74,11 +74,13 @@ part_fewer c s room e l = rw (goes_on c s room e l) (omega (arith, pieces_piece 
 -- ---- where each buffer holds the longest piece
 -- a call on a cursor that the beginning leads to is not refused
 pub not_refused : (c : Cursor) (s : List ℕ) (room : ℕ) → Kept c s → ended c s ≡ false → longest_piece ≤ room → Claims (asked (part_checks c s room))
-unfolding Kept
-not_refused c s room h e l =
-    let fits : leb (length (piece c s).text) room ≡ true = le-leb (length (piece c s).text) room (omega (arith, piece_most c s h e)) in
-    by_bool (λ t. Claims (asked (check (holds (not t || ended c s || leb (length s) 65535)) 26 ∷ check (holds (not t || ended c s || sound c.board)) 30 ∷ check (holds (ended c s || leb (length (piece c s).text) room)) 27 ∷ []))) c.begun
-    (λ b. (rw (e, le-leb (length s) 65535 (h e b).short), (rw (e, sound_tested c.board (h e b).is_sound), (rw (e, fits), tt)))) (λ b. (refl, (refl, (rw (e, fits), tt))))
+not_refused c s room h e l = by_cursor c h e (le-leb (length (piece c s).text) room (omega (arith, piece_most c s h e)))
+  where
+    by_cursor : (d : Cursor) → Kept d s → ended d s ≡ false → leb (length (piece d s).text) room ≡ true → Claims (asked (part_checks d s room))
+    by_cursor Beginning k m fits = (refl, (refl, (fits, tt)))
+    by_cursor (Behind p) k m fits =
+        let u = k (leb-false (length s) p.at m) in
+        (rw (m, le-leb (length s) 65535 u.short), (rw (m, sound_tested p.board u.is_sound), (rw (m, fits), tt)))
 
 first_empty : (a b : List ℕ) → a ++ b ≡ [] → a ≡ []
 first_empty [] b e = refl
@@ -98,7 +100,7 @@ calls_end c s (room ∷ rooms) h a l =
     ∙ part_rest (suc (length s)) c s room)
 
 pub parts_joined : (s rooms : List ℕ) → PartsJoin s rooms
-parts_joined s rooms = record { joins = calls_rest beginning s rooms ∙ rest_beginning s; ends = λ a l. calls_end beginning s rooms (not_begun_kept beginning s refl) a l ∙ rest_beginning s }
+parts_joined s rooms = record { joins = calls_rest beginning s rooms ∙ rest_beginning s; ends = λ a l. calls_end beginning s rooms tt a l ∙ rest_beginning s }
 
 -- ---- a call that is not refused
 abbrev given : Cursor → List ℕ → List ℕ → Part
@@ -121,7 +123,7 @@ pub record Counting (s : List ℕ) (c : Cursor) (n : ℕ) : Type 0 where
   pub sum : n + length (rest_from c s) ≡ length (listing s)
 
 pub counting_begins : (s : List ℕ) (c : Cursor) → c ≡ beginning → Counting s c 0
-counting_begins s c e = subst (λ (x : Cursor). Counting s x 0) (sym e) (record { kept = not_begun_kept beginning s refl; sum = omega (arith, ap length (rest_beginning s)) })
+counting_begins s c e = subst (λ (x : Cursor). Counting s x 0) (sym e) (record { kept = tt; sum = omega (arith, ap length (rest_beginning s)) })
 
 pub counting_ends : (s : List ℕ) (c : Cursor) (n : ℕ) → Counting s c n → ended c s ≡ true → n ≡ length (listing s)
 counting_ends s c n t e = omega (arith, t.sum, ap length (rest_end c s e))

@@ -6,7 +6,7 @@ use Prim.Native.Nat.{ℕ, zero, suc, ◌≤◌, ◌<◌}
 use native.Mathlib.Omega.{arith}
 use lib.ListN.{length, drop, length-append}
 use lib.Dec.{leb}
-use borrow.Author.Tests.{le-leb, ne_eqb}
+use borrow.Author.Tests.{leb-false, ne_eqb}
 use Rattle.rules.specs.Records.{ceiling}
 use Rattle.rules.specs.declared.Board.{Board}
 use Rattle.rules.specs.declared.Outcome.{Outcome}
@@ -34,7 +34,9 @@ use Rattle.listing.specs.Turns.{start_place}
 use Rattle.texts.proofs.TextLaws.{line_length}
 use Rattle.listing.proofs.StartLaws.{reading_number, Started, opened, refused, script_starts, refused_piece_lem, first_text, start_cursor, first_next}
 use Rattle.listing.proofs.PartLaws.{part_each}
+use Rattle.listing.specs.declared.NextLine.{NextLine}
 use Rattle.listing.specs.declared.Cursor.{Cursor}
+use Rattle.listing.specs.declared.Cursor.TheVariants.{Beginning, Behind}
 
 -- ---- a line
 word_most : (v : Verdict) → length (state_word v) ≤ 8
@@ -75,35 +77,30 @@ lines_most (suc k) at s =
 
 -- ---- cursors that the beginning leads to
 -- a cursor behind the beginning and before the end
-pub record Under (c : Cursor) (s : List ℕ) : Type 0 where
+pub record Under (p : NextLine) (s : List ℕ) : Type 0 where
   pub short : length s ≤ 65535
-  pub line : c.line ≤ 4294967295
-  pub is_sound : Sound c.board
+  pub line : p.line ≤ 4294967295
+  pub is_sound : Sound p.board
 
-unfoldable pub Kept : Cursor → List ℕ → Type 0
-Kept c s = ended c s ≡ false → c.begun ≡ true → Under c s
-
-pub not_begun_kept : (c : Cursor) (s : List ℕ) → c.begun ≡ false → Kept c s
-unfolding Kept
-not_begun_kept c s e p q = absurd (true_not_false (sym q ∙ e))
+abbrev pub Kept : Cursor → List ℕ → Type 0
+Kept Beginning s = Unit {0}
+Kept (Behind p) s = p.at < length s → Under p s
 
 first_kept : (s : List ℕ) (o : Outcome) → Started s o → Kept (opened_piece s o).next s
-unfolding Kept
-first_kept s o x = subst (λ (c : Cursor). ended c s ≡ false → c.begun ≡ true → Under c s) (sym (first_next s o x)) (by_start x)
+first_kept s o x = subst (λ (c : Cursor). Kept c s) (sym (first_next s o x)) (by_start x)
   where
-    by_start : Started s o → ended (start_cursor s o) s ≡ false → true ≡ true → Under (start_cursor s o) s
-    by_start (opened l e h d) p q = record { short = l; line = omega arith; is_sound = h }
-    by_start (refused k n e) p q =
+    by_start : Started s o → start_place s o.answer < length s → Under (record { at = start_place s o.answer; line = 1; board = o.board }) s
+    by_start (opened l e h d) m = record { short = l; line = omega arith; is_sound = h }
+    by_start (refused k n e) m =
         let z : start_place s o.answer ≡ length s = rw (e, ne_eqb k 0 (λ y. omega (arith, n, y))) in
-        absurd (true_not_false (sym (le-leb (length s) (start_place s o.answer) (omega arith)) ∙ p))
-
-later_kept : (c : Cursor) (s : List ℕ) → Under c s → Kept (later_piece c s).next s
-unfolding Kept later_piece
-later_kept c s u p q = record { short = u.short; line = omega arith; is_sound = outcome_sound c.board (reading false (up_to 10 (drop c.at s))) u.is_sound }
+        absurd (omega (arith, z, m))
 
 pub piece_kept : (c : Cursor) (s : List ℕ) → Kept c s → ended c s ≡ false → Kept (piece c s).next s
-unfolding Kept piece first_piece
-piece_kept c s h e = by_cond (λ (p : Piece). Kept p.next s) c.begun (λ b. later_kept c s (h e b)) (λ b. first_kept s (start_outcome s) (script_starts s))
+unfolding piece first_piece later_piece
+piece_kept Beginning s h e = first_kept s (start_outcome s) (script_starts s)
+piece_kept (Behind p) s h e = λ m.
+    let u = h (leb-false (length s) p.at e) in
+    record { short = u.short; line = omega arith; is_sound = outcome_sound p.board (reading false (up_to 10 (drop p.at s))) u.is_sound }
 
 pub part_kept : (k : ℕ) (c : Cursor) (s : List ℕ) (room : ℕ) → Kept c s → Kept (part_within k c s room).next s
 part_kept k c s room = part_each s (λ c room p. Kept c s → Kept p.next s) (λ c room h. h) (λ c room p e l ih h. ih (piece_kept c s h e)) k c room
@@ -116,7 +113,8 @@ first_most s o (refused k n e) =
     omega (arith, ap (λ (p : Piece). length p.text) (refused_piece_lem s o k n e), length-append heading (refused_text k), line_length 0 k 0 refused_word, one_digit, count_bound k 2 (omega arith) (omega arith) (omega (arith, n)))
 
 pub piece_most : (c : Cursor) (s : List ℕ) → Kept c s → ended c s ≡ false → length (piece c s).text ≤ longest_piece
-unfolding Kept piece first_piece later_piece
-piece_most c s h e =
-    by_cond (λ (p : Piece). length p.text ≤ longest_piece) c.begun
-    (λ b. omega (arith, later_most c.line c.board (up_to 10 (drop c.at s)) (h e b).line (h e b).is_sound)) (λ b. first_most s (start_outcome s) (script_starts s))
+unfolding piece first_piece later_piece
+piece_most Beginning s h e = first_most s (start_outcome s) (script_starts s)
+piece_most (Behind p) s h e =
+    let u = h (leb-false (length s) p.at e) in
+    omega (arith, later_most p.line p.board (up_to 10 (drop p.at s)) u.line u.is_sound)

@@ -21,6 +21,7 @@ use Rattle.listing.proofs.StartLaws.{start_text}
 use Rattle.listing.proofs.PieceLaws.{outcome_at, turns_left, turns_most, piece_fewer, no_turns, rest_piece}
 use Rattle.listing.specs.Turns.{cursor_of, WritesPieces}
 use Rattle.listing.specs.declared.Cursor.{Cursor}
+use Rattle.listing.specs.declared.Cursor.TheVariants.{Beginning, Behind}
 use Rattle.listing.specs.declared.turns.Progress.{Progress}
 
 abbrev pub none : Cursor → Piece
@@ -96,11 +97,12 @@ part_enough k j c s room l =
 -- ---- what a part leaves
 piece_some : (c : Cursor) (s : List ℕ) → 1 ≤ length (piece c s).text
 unfolding piece later_piece
-piece_some c s =
-    let o : Outcome = outcome_at c.at c.board s in
+piece_some Beginning s =
     let first : Outcome = start_outcome s in
-    by_cond (λ (p : Piece). 1 ≤ length p.text) c.begun (λ e. omega (arith, line_length c.line o.answer o.board.debt (state_word (verdict o.board))))
-    (λ e. omega (arith, ap length (start_text s), length-append heading (board_text 0 first.answer first.board)))
+    omega (arith, ap length (start_text s), length-append heading (board_text 0 first.answer first.board))
+piece_some (Behind p) s =
+    let o : Outcome = outcome_at p.at p.board s in
+    omega (arith, line_length p.line o.answer o.board.debt (state_word (verdict o.board)))
 
 -- every piece has a byte, so a part without any has no piece
 pub part_empty : (k : ℕ) (c : Cursor) (s : List ℕ) (room : ℕ) → length (part_within k c s room).text ≤ 0 → part_within k c s room ≡ none c

@@ -20,6 +20,7 @@ use Rattle.listing.specs.Scripts.{later_outcome, start_outcome, text_of, later_l
 use Rattle.listing.specs.Parts.{beginning, ended, refused_piece, opened_piece, first_piece, next_number, later_piece, piece, rest_within, rest_from}
 use Rattle.listing.proofs.StartLaws.{start_short, start_next}
 use Rattle.listing.specs.declared.Cursor.{Cursor}
+use Rattle.listing.specs.declared.Cursor.TheVariants.{Beginning, Behind}
 
 -- a line number below the largest is followed by the next
 pub number_next : (n : ℕ) → n < 4294967295 → next_number n ≡ suc n
@@ -27,7 +28,7 @@ number_next n l = omega arith
 
 -- ---- a later line
 abbrev pub later_cursor : ℕ → ℕ → Board → Cursor
-later_cursor at n b = record { begun = true; at = at; line = n; board = b }
+later_cursor at n b = Behind (record { at = at; line = n; board = b })
 
 -- the outcome of the line at a place
 abbrev pub outcome_at : ℕ → Board → List ℕ → Outcome
@@ -84,24 +85,19 @@ module _ (k : ℕ) (s : List ℕ) (enough : length s ≤ k) where
 -- ---- more turns give no more text
 -- the turns that a cursor can need
 abbrev pub turns_left : Cursor → List ℕ → ℕ
-turns_left c s = cond c.begun (length s - c.at) (suc (length s))
-
--- every piece leaves a cursor behind the beginning
-first_begun : (s : List ℕ) → (first_piece s).next.begun ≡ true
-first_begun s = ap (λ (c : Cursor). c.begun) (start_next s)
+turns_left Beginning s = suc (length s)
+turns_left (Behind p) s = length s - p.at
 
 -- a piece that is not behind the end leaves fewer turns
 pub piece_fewer : (c : Cursor) (s : List ℕ) → ended c s ≡ false → suc (turns_left (piece c s).next s) ≤ turns_left c s
 unfolding piece later_piece
-piece_fewer c s e = by_begun c.begun e
-  where
-    by_begun : (t : Bool) → t && leb (length s) c.at ≡ false → suc (turns_left (cond t (later_piece c s) (first_piece s)).next s) ≤ cond t (length s - c.at) (suc (length s))
-    by_begun true q = past_fewer c.at s (leb-false (length s) c.at q)
-    by_begun false q = rw (first_begun s) (omega arith)
+piece_fewer Beginning s e = rw start_next (omega arith)
+piece_fewer (Behind p) s e = past_fewer p.at s (leb-false (length s) p.at e)
 
 -- a cursor that can need no turn is behind the end
 pub no_turns : (c : Cursor) (s : List ℕ) → turns_left c s ≤ 0 → ended c s ≡ true
-no_turns c s p = by_test c.begun (λ e. rw (e, le-leb (length s) c.at (omega (arith, rw e at p)))) (λ e. absurd (not-suc-le-zero (rw e at p)))
+no_turns Beginning s l = absurd (not-suc-le-zero l)
+no_turns (Behind p) s l = le-leb (length s) p.at (omega arith)
 
 rest_ended : (k : ℕ) (c : Cursor) (s : List ℕ) → ended c s ≡ true → rest_within k c s ≡ []
 unfolding rest_within
@@ -119,7 +115,8 @@ rest_enough (suc k) (suc j) c s p q =
 
 -- a cursor behind the beginning can need at most as many turns as the script has bytes
 pub turns_most : (c : Cursor) (s : List ℕ) → turns_left c s ≤ suc (length s)
-turns_most c s = by_cond (λ (n : ℕ). n ≤ suc (length s)) c.begun (λ e. omega arith) (λ e. omega arith)
+turns_most Beginning s = omega arith
+turns_most (Behind p) s = omega arith
 
 -- from the beginning the listing is to come, from a cursor behind the end nothing
 pub rest_beginning : (s : List ℕ) → rest_from beginning s ≡ listing s

@@ -27,6 +27,7 @@ use Rattle.listing.specs.Scripts.{first_outcome, script_checks, start_outcome}
 use Rattle.listing.specs.Parts.{refused_piece, opened_piece, first_piece}
 use Rattle.listing.specs.Turns.{start_place}
 use Rattle.listing.specs.declared.Cursor.{Cursor}
+use Rattle.listing.specs.declared.Cursor.TheVariants.{Behind}
 
 -- ---- a line that is refused, is so by a number from 1 to 99
 pub reading_number : (first : Bool) (l : List ℕ) (k : ℕ) → reading first l ≡ Refused k → TwoDigits k
@@ -112,7 +113,7 @@ first_text s o (opened l e h d) = rw (eq-eqb o.answer 0 e, e)
 first_text s o (refused k p e) = rw (e, ne_eqb k 0 (λ z. omega (arith, p, z))) (ap (λ (x : List ℕ). heading ++ x) (sym (blank_text k)))
 
 abbrev pub start_cursor : List ℕ → Outcome → Cursor
-start_cursor s o = record { begun = true; at = start_place s o.answer; line = 1; board = o.board }
+start_cursor s o = Behind (record { at = start_place s o.answer; line = 1; board = o.board })
 
 pub first_next : (s : List ℕ) (o : Outcome) → Started s o → (opened_piece s o).next ≡ start_cursor s o
 first_next s o (opened l e h d) = rw (eq-eqb o.answer 0 e)

@@ -11,7 +11,9 @@ use Rattle.numbers.specs.Lines.{behind}
 use Rattle.texts.specs.Texts.{heading, board_text, refused_text}
 use Rattle.listing.specs.Scripts.{later_outcome, start_outcome, listing}
 pub use Rattle.listing.specs.Bounds.{longest_piece, longest_line}
+use Rattle.listing.specs.declared.NextLine.{NextLine}
 use Rattle.listing.specs.declared.Cursor.{Cursor}
+use Rattle.listing.specs.declared.Cursor.TheVariants.{Beginning, Behind}
 use Rattle.listing.specs.declared.Part.{Part}
 
 -- ---- pieces: the heading with the first line, then one line each
@@ -20,20 +22,21 @@ pub record Piece : Type 0 where
   pub next : Cursor
 
 abbrev pub beginning : Cursor
-beginning = record { begun = false; at = 0; line = 0; board = blank_board }
+beginning = Beginning
 
 -- behind the whole listing; "a place past the end is the end"
 abbrev pub ended : Cursor → List ℕ → Bool
-ended c s = c.begun && leb (length s) c.at
+ended Beginning s = false
+ended (Behind p) s = leb (length s) p.at
 
 -- after a refused first line nothing follows
 abbrev pub refused_piece : List ℕ → ℕ → Piece
-refused_piece s k = record { text = heading ++ refused_text k; next = record { begun = true; at = length s; line = 1; board = blank_board } }
+refused_piece s k = record { text = heading ++ refused_text k; next = Behind (record { at = length s; line = 1; board = blank_board }) }
 
 abbrev pub opened_piece : List ℕ → Outcome → Piece
 opened_piece s o =
     cond (eqb o.answer 0)
-    (record { text = heading ++ board_text 0 0 o.board; next = record { begun = true; at = behind 0 s; line = 1; board = o.board } })
+    (record { text = heading ++ board_text 0 0 o.board; next = Behind (record { at = behind 0 s; line = 1; board = o.board }) })
     (refused_piece s o.answer)
 
 unfoldable pub first_piece : List ℕ → Piece
@@ -43,17 +46,18 @@ first_piece s = opened_piece s (start_outcome s)
 abbrev pub next_number : ℕ → ℕ
 next_number n = min (suc n) 4294967295
 
-abbrev pub later_by : Cursor → List ℕ → Outcome → Piece
-later_by c s o = record {
-  text = board_text c.line o.answer o.board;
-  next = record { begun = true; at = behind c.at s; line = next_number c.line; board = o.board };
+abbrev pub later_by : NextLine → List ℕ → Outcome → Piece
+later_by p s o = record {
+  text = board_text p.line o.answer o.board;
+  next = Behind (record { at = behind p.at s; line = next_number p.line; board = o.board });
 }
 
-unfoldable pub later_piece : Cursor → List ℕ → Piece
-later_piece c s = later_by c s (later_outcome c.board (up_to 10 (drop c.at s)))
+unfoldable pub later_piece : NextLine → List ℕ → Piece
+later_piece p s = later_by p s (later_outcome p.board (up_to 10 (drop p.at s)))
 
 unfoldable pub piece : Cursor → List ℕ → Piece
-piece c s = cond c.begun (later_piece c s) (first_piece s)
+piece Beginning s = first_piece s
+piece (Behind p) s = later_piece p s
 
 -- ---- all that is still to come from a cursor: each piece but the first takes at least a byte of the script
 unfoldable pub rest_within : ℕ → Cursor → List ℕ → List ℕ
@@ -77,12 +81,22 @@ part_within (suc k) c s room = cond (stops c s room) (record { text = []; next =
 abbrev pub part : Cursor → List ℕ → ℕ → Piece
 part c s room = part_within (suc (length s)) c s room
 
+-- what is asked of a cursor: that the script is not too long, and that the board is sound. Of the beginning, and of one behind the whole
+-- listing, neither is asked. (At the beginning, a script that is too long is no refusal of the call: the listing itself tells 26)
+abbrev pub may_be_listed : Cursor → List ℕ → Bool
+may_be_listed Beginning s = true
+may_be_listed (Behind p) s = leb (length s) p.at || leb (length s) 65535
+
+abbrev pub may_be_led_to : Cursor → List ℕ → Bool
+may_be_led_to Beginning s = true
+may_be_led_to (Behind p) s = leb (length s) p.at || sound p.board
+
 -- 26, then 30, of a cursor that no listing of this script leads to; 27 where not even the next piece fits. A cursor behind the whole listing
--- is never refused: its part is empty. (At the beginning, a script that is too long is no refusal of the call: the listing itself tells 26)
+-- is never refused: its part is empty
 abbrev pub part_checks : Cursor → List ℕ → ℕ → List Check
 part_checks c s room =
-    check (holds (not c.begun || ended c s || leb (length s) 65535)) 26
-    ∷ check (holds (not c.begun || ended c s || sound c.board)) 30
+    check (holds (may_be_listed c s)) 26
+    ∷ check (holds (may_be_led_to c s)) 30
     ∷ check (holds (ended c s || leb (length (piece c s).text) room)) 27
     ∷ []
 

@@ -1,7 +1,9 @@
 -- What the calls inside a listing in parts give: the place behind the first line, and a batch of lines gathered and written.
 -- For private contracts only; a reader of the claim may skip this.
-use Rattle.std.specs.Prelude.{true, cond, List, [], ◌∷◌, ◌≡◌, ℕ, ◌+◌, ◌-◌, ◌/◌, min, max, length, take, eqb}
+use Rattle.std.specs.Prelude.{true, cond, List, [], ◌∷◌, ◌≡◌, ℕ, ◌+◌, ◌-◌, ◌/◌, min, max, length, take, eqb, Result, Ok, Err}
 use Rattle.std.proofs.lemmas.List.Edits.{sets}
+use Rattle.refusals.specs.Numbers.{number}
+use Rattle.refusals.specs.declared.Refusal.{Refusal}
 use Rattle.rules.specs.Sheets.Finished.{told_from}
 use Rattle.rules.specs.Runs.{batch_most}
 use Rattle.placing.specs.Placing.{wrote, written}
@@ -13,6 +15,8 @@ use Rattle.listing.specs.Bounds.{longest_line}
 use Rattle.listing.specs.Parts.{next_number, part_within}
 use Rattle.listing.specs.Batches.{records_of, refusals_of}
 use Rattle.listing.specs.declared.Cursor.{Cursor}
+use Rattle.listing.specs.declared.Cursor.TheVariants.{Behind}
+use Rattle.listing.specs.declared.Part.{Part}
 use Rattle.listing.specs.declared.gathering.Gathered.{Gathered}
 use Rattle.listing.specs.declared.turns.Progress.{Progress}
 
@@ -51,7 +55,12 @@ rows_into n (k ∷ ks) (j ∷ js) (d ∷ ds) at out = rows_into (next_number n) 
 
 -- ---- a part of a listing behind its first line
 abbrev pub cursor_of : Progress → Cursor
-cursor_of p = record { begun = true; at = p.at; line = p.line; board = p.board }
+cursor_of p = Behind p.next
+
+-- a call by what it has come to, or by what refuses it: then its cursor is the one handed over
+abbrev pub part_by : Cursor → Result Progress Refusal → Part
+part_by c (Ok p) = record { wrote = Count p.to; cursor = cursor_of p }
+part_by c (Err k) = record { wrote = Refused (number k); cursor = c }
 
 -- how many lines surely fit in so many bytes, at most a batch; one where none surely does
 abbrev pub batch_size : ℕ → ℕ

@@ -23,14 +23,11 @@ fn take_batch(p: Reached, script: &[u8]) -> Reached
     requires { sound p.board ≡ true }
     ensures { result ≡ record { at = place_after batch_most p.at script.now; board = board_after p.board (lines_at batch_most p.at script.now) } }
 {
-    let at = p.at;
-    let g = gather(script, at, BATCH);
-    let count = g.count;
-    let steps = g.steps;
-    let before = p.board;
-    let done = run_batch(before, steps, count);
-    let board = done.board;
-    Reached { at: g.at, board }
+    let g = gather(script, p.at, BATCH);
+    Reached {
+        at: g.at,
+        board: run_batch(p.board, g.steps, g.count).board,
+    }
 }
 
 // Batch by batch up to the script's end.
@@ -41,8 +38,7 @@ fn take_lines(mut p: Reached, script: &[u8]) -> Board
     while p.at < script.len() {
         p = take_batch(p, script);
     }
-    let board = p.board;
-    board
+    p.board
 }
 
 // What a script leaves: the number that refuses its first line, or 0 and the board after its last line. Behind a refused first line no line
@@ -51,12 +47,12 @@ pub fn ending(script: &[u8]) -> Outcome
     ensures { result ≡ end_outcome script.now }
 {
     let o = start_outcome(script);
-    let answer = o.answer;
-    let board = o.board;
     let start = Reached {
-        at: start_place(answer, script),
-        board,
+        at: start_place(o.answer, script),
+        board: o.board,
     };
-    let board = take_lines(start, script);
-    Outcome { answer, board }
+    Outcome {
+        board: take_lines(start, script),
+        ..o
+    }
 }

@@ -1,7 +1,6 @@
 // Script lines gathered as step records, for a batch.
 ghost use Rattle.std.specs.Prelude.{◌≡◌, ◌≤◌};
 ghost use Rattle.rules.specs.Runs.{batch_most};
-ghost use Rattle.steps.specs.NoStep.{no_step};
 ghost use Rattle.listing.specs.Batches.{lines_at, place_after, record_of};
 ghost use Rattle.listing.specs.Turns.{Gathers};
 
@@ -19,25 +18,22 @@ pub(crate) struct Gathered {
     pub(crate) at: usize,
 }
 
+// What every board refuses.
+const NO_STEP: StepRecord = StepRecord {
+    kind: 0,
+    unit: 0,
+    other: 0,
+    slot: 0,
+};
+
 // A line that is no step as a record that every board refuses.
 fn record_of(r: Reading) -> StepRecord
     ensures { result ≡ record_of r }
 {
     match r {
-        Reading::Opens(_, _, _) => no_step(),
+        Reading::Opens(_, _, _) => NO_STEP,
         Reading::Asks(x) => x,
-        Reading::Refused(_) => no_step(),
-    }
-}
-
-fn no_step() -> StepRecord
-    ensures { result ≡ no_step }
-{
-    StepRecord {
-        kind: 0,
-        unit: 0,
-        other: 0,
-        slot: 0,
+        Reading::Refused(_) => NO_STEP,
     }
 }
 
@@ -46,31 +42,23 @@ pub(crate) fn gather(script: &[u8], from: usize, most: usize) -> Gathered
     requires { most ≤ batch_most }
     ensures { Gathers result (lines_at most from script.now) (place_after most from script.now) }
 {
-    let mut steps = [no_step(); BATCH];
+    let mut steps = [NO_STEP; BATCH];
     let mut refusals = [0u16; BATCH];
+    let mut count = 0;
     let mut at = from;
-    let mut i = 0;
-    while i < most {
-        if at >= script.len() {
-            return Gathered {
-                steps,
-                refusals,
-                count: i,
-                at,
-            };
-        }
-        let l = line_at(script, at);
-        let end = l.end;
-        let line = read_line(&script[at..end], false);
-        steps[i] = record_of(line);
-        refusals[i] = line.refusal();
-        at = l.next;
-        i += 1;
+    // A cursor: each line begins where the one before it ended.
+    while count < most && at < script.len() {
+        let here = line_at(script, at);
+        let line = read_line(&script[at..here.end], false);
+        steps[count] = record_of(line);
+        refusals[count] = line.refusal();
+        count += 1;
+        at = here.next;
     }
     Gathered {
-        steps,
         refusals,
-        count: i,
+        steps,
+        count,
         at,
     }
 }

@@ -18,17 +18,23 @@ use placing::Wrote;
 use rules::Board;
 pub use whole::{list_all, listing_length};
 
-// Where a listing that is written in parts has come to: its beginning, or behind a script line. Then `at` is the place of the next
-// script line and `line` its number.
+// The script line that is next: its place in the script, its number, and the board before it.
 #[derive(Clone, Copy)]
-pub struct Cursor {
-    pub begun: bool,
+pub struct NextLine {
     pub at: usize,
     pub line: u32,
     pub board: Board,
 }
 
+// Where a listing that is written in parts has come to: its beginning, or behind a script line.
+#[derive(Clone, Copy)]
+pub enum Cursor {
+    Beginning,
+    Behind(NextLine),
+}
+
 // One part of a listing: how many bytes were written, or the number that refused the call, and the cursor behind it.
+// A refused call has a cursor too, the one that it was handed: from there a larger buffer goes on.
 #[derive(Clone, Copy)]
 pub struct Part {
     pub wrote: Wrote,

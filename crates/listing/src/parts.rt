@@ -1,84 +1,52 @@
 // A listing in parts: from a cursor as many whole lines as fit in a lent buffer, and the cursor behind them.
-ghost use Rattle.std.specs.Prelude.{◌≡◌, true, false};
-ghost use Rattle.placing.specs.declared.Wrote.TheVariants.{Count};
+ghost use Rattle.std.specs.Prelude.{◌≡◌};
 ghost use Rattle.listing.specs.Parts.{part_of, part_buffer};
-ghost use Rattle.listing.specs.Turns.{cursor_of};
+ghost use Rattle.listing.specs.Turns.{part_by};
+ghost use Rattle.listing.specs.declared.Cursor.TheVariants.{Beginning, Behind};
 
 use crate::starting::{start_outcome, start_place, write_first};
 use crate::turns::{Progress, list_lines};
-use crate::{Cursor, Part};
+use crate::{Cursor, NextLine, Part};
 use board::{finished, is_sound};
 use placing::Wrote;
-use rules::Board;
+use refusals::Refusal;
 
-// A call that writes nothing keeps its cursor.
-fn kept(wrote: Wrote, c: Cursor) -> Part
-    ensures { result ≡ record { wrote = wrote; cursor = c } }
-{
-    Part { wrote, cursor: c }
-}
-
-fn part_at(p: Progress) -> Part
-    ensures { result ≡ record { wrote = Count p.to; cursor = cursor_of p } }
-{
-    let board = p.board;
-    let cursor = Cursor {
-        begun: true,
-        at: p.at,
-        line: p.line,
-        board,
-    };
-    Part {
-        wrote: Wrote::Count(p.to),
-        cursor,
-    }
-}
-
-fn list_later(c: Cursor, script: &[u8], out: &mut [u8]) -> Part
-    requires { c.begun ≡ true }
-    ensures { (result ≡ part_of c script.now out.old) × (out.new ≡ part_buffer c script.now out.old) }
-{
-    if c.at >= script.len() {
-        return kept(Wrote::Count(0), c);
-    }
-    let board = c.board;
-    let safe = is_sound(board);
-    if script.len() > 65535 {
-        return kept(Wrote::Refused(26), c);
-    }
-    if !safe {
-        return kept(Wrote::Refused(30), c);
-    }
-    let start = Progress {
-        at: c.at,
-        line: c.line,
-        board,
-        to: 0,
-    };
-    let p = list_lines(start, script, out);
-    if p.to == 0 {
-        return kept(Wrote::Refused(27), c);
-    }
-    part_at(p)
-}
-
-fn list_first(c: Cursor, script: &[u8], out: &mut [u8]) -> Part
-    requires { c.begun ≡ false }
-    ensures { (result ≡ part_of c script.now out.old) × (out.new ≡ part_buffer c script.now out.old) }
+// From the beginning: the heading and the first line, and then the lines behind it.
+fn list_first(script: &[u8], out: &mut [u8]) -> Result<Progress, Refusal>
+    ensures { (part_by Beginning result ≡ part_of Beginning script.now out.old) × (out.new ≡ part_buffer Beginning script.now out.old) }
 {
     let o = start_outcome(script);
-    let board = o.board;
-    let to = write_first(o.answer, board.debt, finished(board), out);
+    let to = write_first(o.answer, o.board.debt, finished(o.board), out);
     if to == 0 {
-        return kept(Wrote::Refused(27), c);
+        return Err(Refusal::NoRoom);
     }
-    let start = Progress {
+    let next = NextLine {
         at: start_place(o.answer, script),
         line: 1,
-        board,
-        to,
+        board: o.board,
     };
-    part_at(list_lines(start, script, out))
+    Ok(list_lines(Progress { next, to }, script, out))
+}
+
+// Behind the first line. At the script's end there is nothing to write and nothing to refuse.
+fn list_later(next: NextLine, script: &[u8], out: &mut [u8]) -> Result<Progress, Refusal>
+    ensures { (part_by (Behind next) result ≡ part_of (Behind next) script.now out.old) × (out.new ≡ part_buffer (Behind next) script.now out.old) }
+{
+    let start = Progress { next, to: 0 };
+    if next.at >= script.len() {
+        return Ok(start);
+    }
+    if script.len() > 65535 {
+        return Err(Refusal::ScriptTooLong);
+    }
+    if !is_sound(next.board) {
+        return Err(Refusal::NotSound);
+    }
+    let p = list_lines(start, script, out);
+    if p.to == 0 {
+        return Err(Refusal::NoRoom);
+    }
+    Ok(p)
 }
 
 // The next part of a listing: as many whole lines as fit in the buffer, and the cursor behind them. Refused by 26 or 30 where the cursor is
@@ -87,8 +55,18 @@ fn list_first(c: Cursor, script: &[u8], out: &mut [u8]) -> Part
 pub fn list_part(c: Cursor, script: &[u8], out: &mut [u8]) -> Part
     ensures { (result ≡ part_of c script.now out.old) × (out.new ≡ part_buffer c script.now out.old) }
 {
-    if c.begun {
-        return list_later(c, script, out);
+    let listed = match c {
+        Cursor::Beginning => list_first(script, out),
+        Cursor::Behind(next) => list_later(next, script, out),
+    };
+    match listed {
+        Ok(p) => Part {
+            wrote: Wrote::Count(p.to),
+            cursor: Cursor::Behind(p.next),
+        },
+        Err(k) => Part {
+            wrote: Wrote::Refused(k.number()),
+            cursor: c,
+        },
     }
-    list_first(c, script, out)
 }

@@ -27,15 +27,6 @@ pub(crate) fn bytes_of(w: Wrote) -> usize
     }
 }
 
-fn next_number(line: u32) -> u32
-    ensures { result ≡ next_number line }
-{
-    if line < 4294967295 {
-        return line + 1;
-    }
-    4294967295
-}
-
 // A line that is no step has its own refusal for an answer.
 fn answer_of(refusal: u16, answer: u16) -> u16
     ensures { result ≡ cond (eqb refusal 0) answer refusal }
@@ -71,13 +62,10 @@ pub(crate) fn write_rows(
 {
     let mut number = line;
     let mut to = at;
-    let mut i = 0;
-    while i < count {
-        let answer = answer_of(refusals[i], answers[i]);
-        let debt = debts[i];
-        to += bytes_of(write_line(number as u64, answer as u64, debt, state_of(debt), out, to));
-        number = next_number(number);
-        i += 1;
+    for ((refusal, answer), debt) in refusals[..count].iter().zip(&answers).zip(&debts) {
+        let answer = answer_of(*refusal, *answer);
+        to += bytes_of(write_line(u64::from(number), u64::from(answer), *debt, state_of(*debt), out, to));
+        number = number.saturating_add(1);
     }
     Rows { line: number, to }
 }

@@ -3,20 +3,19 @@ ghost use Rattle.std.specs.Prelude.{◌≡◌, true, suc, ◌-◌, ◌≤◌, �
 ghost use Rattle.rules.specs.Sound.{sound};
 ghost use Rattle.listing.specs.Turns.{batch_size, WritesPieces};
 
+use crate::NextLine;
 use crate::gathering::gather;
 use crate::rows::write_rows;
-use rules::{BATCH, Board};
+use rules::BATCH;
 use steps::run_batch;
 
 // No line behind the first is longer.
 pub(crate) const LONGEST: usize = 37;
 
-// Where a part has come to: the cursor's place, line number and board, and the place behind the last byte written.
+// Where a part has come to: the script line that is next, and the place behind the last byte written.
 #[derive(Clone, Copy)]
 pub(crate) struct Progress {
-    pub(crate) at: usize,
-    pub(crate) line: u32,
-    pub(crate) board: Board,
+    pub(crate) next: NextLine,
     pub(crate) to: usize,
 }
 
@@ -24,50 +23,34 @@ pub(crate) struct Progress {
 fn batch_size(room: usize) -> usize
     ensures { result ≡ batch_size room }
 {
-    let k = room / LONGEST;
-    if k < 1 {
-        return 1;
-    }
-    if k > BATCH {
-        return BATCH;
-    }
-    k
+    (room / LONGEST).min(BATCH).max(1)
 }
 
 // One batch of lines. A single line that does not fit leaves everything as it is.
 fn turn(p: Progress, script: &[u8], out: &mut [u8]) -> Progress
-    requires { (sound p.board ≡ true) × (p.to ≤ length out.old) }
+    requires { (sound p.next.board ≡ true) × (p.to ≤ length out.old) }
     ensures { WritesPieces (batch_size (length out.old - p.to)) p script.now out.old result out.new }
 {
-    let to = p.to;
-    let at = p.at;
-    let g = gather(script, at, batch_size(out.len() - to));
-    let count = g.count;
-    let steps = g.steps;
-    let before = p.board;
-    let done = run_batch(before, steps, count);
-    let refusals = g.refusals;
-    let answers = done.answers;
-    let debts = done.debts;
-    let w = write_rows(p.line, refusals, answers, debts, count, out, to);
-    if w.to == to {
+    let g = gather(script, p.next.at, batch_size(out.len() - p.to));
+    let done = run_batch(p.next.board, g.steps, g.count);
+    let w = write_rows(p.next.line, g.refusals, done.answers, done.debts, g.count, out, p.to);
+    if w.to == p.to {
         return p;
     }
-    let board = done.board;
-    Progress {
+    let next = NextLine {
         at: g.at,
         line: w.line,
-        board,
-        to: w.to,
-    }
+        board: done.board,
+    };
+    Progress { next, to: w.to }
 }
 
-// As many lines as fit, batch by batch.
+// As many lines as fit, batch by batch: a batch that wrote nothing is the last.
 pub(crate) fn list_lines(mut p: Progress, script: &[u8], out: &mut [u8]) -> Progress
-    requires { (p.at < length script.now → sound p.board ≡ true) × (p.to ≤ length out.old) }
+    requires { (p.next.at < length script.now → sound p.next.board ≡ true) × (p.to ≤ length out.old) }
     ensures { WritesPieces (suc (length script.now)) p script.now out.old result out.new }
 {
-    while p.at < script.len() {
+    while p.next.at < script.len() {
         let to = p.to;
         p = turn(p, script, out);
         if p.to == to {

@@ -16,13 +16,11 @@ pub fn listing_length(script: &[u8]) -> usize
 {
     let mut part = [0u8; 32768];
     let mut c = beginning();
-    let mut n: usize = 0;
+    let mut n = 0;
     while !is_ended(c, script) {
         let p = list_part(c, script, &mut part);
-        let wrote = p.wrote;
-        let next = p.cursor;
-        n += bytes_of(wrote);
-        c = next;
+        n += bytes_of(p.wrote);
+        c = p.cursor;
     }
     n
 }
@@ -31,10 +29,7 @@ pub fn listing_length(script: &[u8]) -> usize
 fn listing_fits(script: &[u8], room: usize) -> bool
     ensures { result ≡ leb (length (listing script.now)) room }
 {
-    if bound(script) <= room {
-        return true;
-    }
-    listing_length(script) <= room
+    bound(script) <= room || listing_length(script) <= room
 }
 
 // The whole listing of a script at the start of a buffer, or 27 and the buffer as it was.
@@ -44,7 +39,5 @@ pub fn list_all(script: &[u8], out: &mut [u8]) -> Wrote
     if !listing_fits(script, out.len()) {
         return Wrote::Refused(27);
     }
-    let p = list_part(beginning(), script, out);
-    let wrote = p.wrote;
-    wrote
+    list_part(beginning(), script, out).wrote
 }

@@ -1,7 +1,6 @@
 -- The kinds 1 to 8, one by one, and every other number; the words by their places.
 use mathlib.Core.Path.{◌≡◌, refl, sym, ap, ◌∙◌}
 use mathlib.Core.Bool.{true, false}
-use mathlib.Core.Logic.{◌⊎◌, inl, inr}
 use mathlib.Core.List.{[], ◌∷◌, List}
 use Prim.Native.Nat.{ℕ, zero, suc, ◌≤◌, ◌<◌}
 use native.Mathlib.Nat.{not-suc-le-zero}
@@ -9,7 +8,7 @@ use native.Mathlib.Omega.{arith}
 use borrow.Author.Tests.{leb-true, leb-false}
 use lib.Dec.{leb}
 use lib.ListN.{get_or-eq_default, length, get_or}
-use Rattle.rules.specs.Actions.{kinds, action_of, is_known}
+use Rattle.rules.specs.Actions.{kinds, kind_of, action_of, is_known}
 use Rattle.rules.specs.declared.Action.TheVariants.{Unknown, Start, Send, Request as RequestStep, Deliver, Rest, Tick, Release, Move}
 use Rattle.rules.proofs.FactLaws.{true_not_false, same_is, each_claims, each_at}
 use Rattle.fields.proofs.Cases.{by_bool, by_cond}
@@ -28,11 +27,8 @@ by_kind P p1 p2 p3 p4 p5 p6 p7 p8 (suc (suc (suc (suc (suc (suc (suc zero)))))))
 by_kind P p1 p2 p3 p4 p5 p6 p7 p8 (suc (suc (suc (suc (suc (suc (suc (suc zero)))))))) l u = p8
 by_kind P p1 p2 p3 p4 p5 p6 p7 p8 (suc (suc (suc (suc (suc (suc (suc (suc (suc k))))))))) l u = absurd (omega arith)
 
--- the kinds but 2, but 3 and 7, and but 8
-pub by_others : (P : ℕ → Type 0) → P 1 → P 4 → P 5 → P 6 → (k : ℕ) → 1 ≤ k → k ≤ kinds → (k ≡ 2 → ⊥) → ((k ≡ 3) ⊎ (k ≡ 7) → ⊥) → (k ≡ 8 → ⊥) → P k
-by_others P p1 p4 p5 p6 =
-    by_kind (λ k. (k ≡ 2 → ⊥) → ((k ≡ 3) ⊎ (k ≡ 7) → ⊥) → (k ≡ 8 → ⊥) → P k) (λ m n o. p1) (λ m n o. absurd (m refl)) (λ m n o. absurd (n (inl refl))) (λ m n o. p4) (λ m n o. p5) (λ m n o. p6)
-    (λ m n o. absurd (n (inr refl))) (λ m n o. absurd (o refl))
+pub kind_back : (k : ℕ) → 1 ≤ k → k ≤ kinds → kind_of (action_of k) ≡ k
+kind_back = by_kind (λ k. kind_of (action_of k) ≡ k) refl refl refl refl refl refl refl refl
 
 pub known_in : (k : ℕ) → 1 ≤ k → k ≤ kinds → is_known (action_of k) ≡ true
 known_in = by_kind (λ k. is_known (action_of k) ≡ true) refl refl refl refl refl refl refl refl

@@ -6,6 +6,7 @@ use mathlib.Core.List.{List, [], ◌∷◌, ◌++◌}
 use Prim.Native.Nat.{ℕ, zero, suc, ◌≤◌, ◌<◌, ◌^◌}
 use native.Mathlib.Omega.{arith}
 use lib.ListN.{length, drop, get_or, length-drop}
+use Rattle.std.specs.Prelude.{Result, Ok, Err}
 use Rattle.rules.specs.Facts.{Claim}
 use Rattle.rules.specs.Actions.{kinds, action_of, is_known}
 use Rattle.rules.specs.Letters.{letters, record_from, used}
@@ -19,12 +20,12 @@ use Rattle.numbers.proofs.NumberLaws.{values_length}
 use Rattle.numbers.proofs.LineLaws.{same_lines}
 use Rattle.numbers.proofs.JoinLaws.{Small, values_small}
 use Rattle.script.specs.Words.{words, word_number}
-use Rattle.script.specs.Lines.{arguments, right_count, record_by, reading_by, reading, parents_of, is_opening}
+use Rattle.script.specs.Lines.{arguments, right_count, record_by, line_by, reading, parents_of, is_opening}
 use Rattle.script.specs.Writing.{letters_of, step_line, step_text}
 use Rattle.script.specs.OneToOne.{StepLinesWritten, Sayable, OneToOne, BoardLinesSame, SaySame, same_board, same_step, AllSaySame, ScriptsSame}
-use Rattle.script.specs.declared.Reading.TheVariants.{Opens, Asks}
+use Rattle.script.specs.declared.Line.TheVariants.{Opens, Asks}
 use Rattle.script.proofs.KindLaws.{known_in}
-use Rattle.script.proofs.AcceptedLaws.{accepted_opens, accepted_asks, opens_many, opens_word, line_whole}
+use Rattle.script.proofs.AcceptedLaws.{said_is, accepted_opens, accepted_asks, opens_many, opens_word, line_whole}
 use Rattle.script.proofs.RoundTrip.{text_stands, round_trip}
 
 -- ---- the step of a kind by values, one for each letter: its line, and that a line can say it
@@ -60,7 +61,7 @@ count_claimed : (k n : ℕ) → 1 ≤ k → Claim (right_count k n) → n ≡ su
 count_claimed zero n l c = absurd (omega arith)
 count_claimed (suc k) n l c = c
 
-asks_step : (k : ℕ) (vs : List ℕ) {r : StepRecord} → reading_by k vs ≡ Asks r → (1 ≤ k) × (record_by k vs (action_of k) ≡ r)
+asks_step : (k : ℕ) (vs : List ℕ) {r : StepRecord} → line_by k vs ≡ Asks r → (1 ≤ k) × (record_by k vs (action_of k) ≡ r)
 asks_step zero vs e = let z : ◌≡◌ {A = ℕ} 0 1 = cc in absurd (omega arith)
 asks_step (suc k) vs e = (omega arith, cc)
 
@@ -69,12 +70,12 @@ values_count : (l : List ℕ) → suc (length (values (arguments l))) ≡ field_
 unfolding field_count
 values_count l = omega (arith, values_length (arguments l), length-drop 1 (fields_of l), fields_count l)
 
-step_line_lem : (first : Bool) (l : List ℕ) (r : StepRecord) → reading first l ≡ Asks r → Sayable r × (step_line r ≡ l)
+step_line_lem : (first : Bool) (l : List ℕ) (r : StepRecord) → reading first l ≡ Ok (Asks r) → Sayable r × (step_line r ≡ l)
 step_line_lem first l r e =
     let k : ℕ = word_number (field_of 0 l) in
     let vs : List ℕ = values (arguments l) in
     let a = accepted_asks first l e in
-    let asked = asks_step k vs (sym a.says ∙ e) in
+    let asked = asks_step k vs (said_is a e) in
     let counted : length vs ≡ length (letters (action_of k)) = omega (arith, values_count l, count_claimed k (field_count l) asked.0 a.counted) in
     let small = values_small (arguments l) a.fine in (
       subst Sayable asked.1 (made_sayable k vs asked.0 a.known counted small),
@@ -90,11 +91,11 @@ step_lines_written l r e =
 pub one_to_one : OneToOne
 one_to_one = record {
   from_line = step_line_lem false;
-  from_step = λ r p. (round_trip r p.known p.fits).line ∙ ap Asks p.unused;
+  from_step = λ r p. (round_trip r p.known p.fits).line ∙ ap (λ (q : StepRecord). Ok (Asks q)) p.unused;
 }
 
 -- ---- a board line is its word, M, d and its parents
-opens_says : (k : ℕ) (vs : List ℕ) {m d n : ℕ} → reading_by k vs ≡ Opens m d n → (get_or vs 0 0 ≡ m) × (get_or vs 1 0 ≡ d)
+opens_says : (k : ℕ) (vs : List ℕ) {m d n : ℕ} → line_by k vs ≡ Opens m d n → (get_or vs 0 0 ≡ m) × (get_or vs 1 0 ≡ d)
 opens_says zero vs e = (cc, cc)
 opens_says (suc k) vs e = let z : ◌≡◌ {A = ℕ} 0 1 = cc in absurd (omega arith)
 
@@ -103,19 +104,19 @@ two_first [] h = absurd (omega arith)
 two_first (v ∷ []) h = absurd (omega arith)
 two_first (v ∷ w ∷ vs) h = refl
 
-board_line_lem : (first : Bool) (l : List ℕ) (m d n : ℕ) → reading first l ≡ Opens m d n → get_or words 0 [] ++ tabbed (m ∷ d ∷ parents_of l) ≡ l
+board_line_lem : (first : Bool) (l : List ℕ) (m d n : ℕ) → reading first l ≡ Ok (Opens m d n) → get_or words 0 [] ++ tabbed (m ∷ d ∷ parents_of l) ≡ l
 unfolding parents_of
 board_line_lem first l m d n e =
     let k : ℕ = word_number (field_of 0 l) in
     let vs : List ℕ = values (arguments l) in
     let a = accepted_opens first l e in
-    let said = opens_says k vs (sym a.says ∙ e) in
+    let said = opens_says k vs (said_is a e) in
     let opens : is_opening (reading first l) ≡ true = ap is_opening e in
     let word : k ≡ 0 = opens_word k vs (ap is_opening (sym a.says) ∙ opens) in
     let numbers : m ∷ d ∷ drop 2 vs ≡ vs = rw (sym said.0, sym said.1) (two_first vs (omega (arith, values_count l, opens_many first l opens))) in
     ap (λ (ns : List ℕ). get_or words 0 [] ++ tabbed ns) numbers ∙ ap (λ (j : ℕ). get_or words j [] ++ tabbed vs) (sym word) ∙ line_whole first l a
 
-same_board_lem : (first : Bool) (l k : List ℕ) (m d i j : ℕ) → reading first l ≡ Opens m d i → reading first k ≡ Opens m d j → parents_of l ≡ parents_of k → l ≡ k
+same_board_lem : (first : Bool) (l k : List ℕ) (m d i j : ℕ) → reading first l ≡ Ok (Opens m d i) → reading first k ≡ Ok (Opens m d j) → parents_of l ≡ parents_of k → l ≡ k
 same_board_lem first l k m d i j p q e = sym (board_line_lem first l m d i p) ∙ ap (λ (ps : List ℕ). get_or words 0 [] ++ tabbed (m ∷ d ∷ ps)) e ∙ board_line_lem first k m d j q
 
 pub board_lines_same : BoardLinesSame

@@ -7,6 +7,7 @@ use native.Mathlib.Nat.{not-suc-le-zero}
 use native.Mathlib.Omega.{arith}
 use lib.ListN.{length, take, drop, get_or, length-append, length-map}
 use lib.Seq.{sets-eq, take_at, drop_at, length-take-le}
+use Rattle.std.specs.Prelude.{None, Result, Ok, Err}
 use Rattle.rules.specs.Facts.{equal, Claim, Claims, each, same_list}
 use Rattle.rules.specs.Actions.{kinds, action_of, is_known}
 use Rattle.rules.specs.Letters.{letters, used}
@@ -14,7 +15,6 @@ use Rattle.rules.specs.Guarantee.{Fits16}
 use Rattle.rules.specs.declared.StepRecord.{StepRecord}
 use Rattle.rules.proofs.LetterLaws.{letter_values_length}
 use Rattle.rules.proofs.FactLaws.{asked, judge_passed}
-use Rattle.placing.specs.declared.Wrote.TheVariants.{Count}
 use Rattle.placing.proofs.WriteLaws.{wrote_count, written_fits}
 use Rattle.decimal.specs.Spelling.{spelled}
 use Rattle.fields.specs.Fields.{tab, count_of, field_of, field_count}
@@ -22,12 +22,12 @@ use Rattle.numbers.specs.Numbers.{fields_of, values, refusal_of}
 use Rattle.numbers.proofs.PlaceLaws.{fields_split, fields_count}
 use Rattle.numbers.proofs.JoinLaws.{Small, fields_tabbed, fine_tabbed, values_tabbed}
 use Rattle.script.specs.Words.{words, place_of, word_number}
-use Rattle.script.specs.Lines.{arguments, right_count, line_checks, reading_by, reading}
+use Rattle.script.specs.Lines.{arguments, right_count, line_checks, line_by, reading}
 use Rattle.script.specs.Writing.{letters_of, step_line, step_text, step_wrote, step_written}
 use Rattle.script.specs.RoundTrips.{RoundTrip}
-use Rattle.script.specs.declared.Reading.TheVariants.{Asks, Refused}
+use Rattle.script.specs.declared.Line.TheVariants.{Asks}
 use Rattle.script.proofs.KindLaws.{known_range, word_row}
-use Rattle.script.proofs.AcceptedLaws.{reading_asks, fields_pass}
+use Rattle.script.proofs.AcceptedLaws.{line_asks, fields_pass}
 use Rattle.script.proofs.LetterLaws.{letters_small, line_short}
 
 -- ---- the rows: each word has its number and no tab, each kind its letters
@@ -68,7 +68,7 @@ module _ (r : StepRecord) (l : 1 ≤ r.kind) (u : r.kind ≤ kinds) (h : Fits16 
   line_count : field_count (step_line r) ≡ suc (length (letters (action_of r.kind)))
   line_count = sym (fields_count (step_line r)) ∙ ap length line_fields ∙ ap suc (length-map ns spelled ∙ letter_values_length r (letters (action_of r.kind)))
 
-  line_fine : refusal_of (arguments (step_line r)) ≡ 0
+  line_fine : refusal_of (arguments (step_line r)) ≡ None
   line_fine = ap (λ (fs : List (List ℕ)). refusal_of (drop 1 fs)) line_fields ∙ fine_tabbed ns small
 
   line_values : values (arguments (step_line r)) ≡ ns
@@ -79,17 +79,17 @@ module _ (r : StepRecord) (l : 1 ≤ r.kind) (u : r.kind ≤ kinds) (h : Fits16 
       let w = line_word in
       (omega (arith, line_short r l u h), (omega (arith, line_word, u), (omega (arith, line_word, l), (rw line_word (count_right r.kind (field_count (step_line r)) l line_count), fields_pass (arguments (step_line r)) line_fine))))
 
-  line_says : reading_by (word_number (field_of 0 (step_line r))) (values (arguments (step_line r))) ≡ Asks (used r)
+  line_says : line_by (word_number (field_of 0 (step_line r))) (values (arguments (step_line r))) ≡ Asks (used r)
   unfolding used
-  line_says = rw (line_word, line_values) (reading_asks r.kind ns (λ z. omega (arith, z, l)))
+  line_says = rw (line_word, line_values) (line_asks r.kind ns (λ z. omega (arith, z, l)))
 
-  read_back : reading false (step_line r) ≡ Asks (used r)
+  read_back : reading false (step_line r) ≡ Ok (Asks (used r))
   unfolding reading
-  read_back = judge_passed Refused (line_checks false (step_line r)) (reading_by (word_number (field_of 0 (step_line r))) (values (arguments (step_line r)))) line_passes ∙ line_says
+  read_back = judge_passed Err (line_checks false (step_line r)) (Ok (line_by (word_number (field_of 0 (step_line r))) (values (arguments (step_line r))))) line_passes ∙ ap Ok line_says
 
 -- ---- the line as it stands in a buffer
 module _ (r : StepRecord) (e : is_known (action_of r.kind) ≡ true) (at n : ℕ) (out : List ℕ) where
-  module _ (w : step_wrote r at out ≡ Count n) where
+  module _ (w : step_wrote r at out ≡ Ok n) where
     counted : (n ≡ length (step_text r)) × (at + length (step_text r) ≤ length out)
     unfolding step_wrote
     counted = wrote_count (step_text r) at out (rw e at w)

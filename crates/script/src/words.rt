@@ -1,68 +1,47 @@
-// The words of a script: found by comparing, and written.
-ghost use Rattle.std.specs.Prelude.{◌≡◌, [], ◌≤◌, length, get_or};
-ghost use Rattle.std.proofs.lemmas.List.Edits.{sets};
-ghost use Rattle.rules.specs.Actions.{kinds};
+// The words of a script: one table, by which they are read and written.
+ghost use Rattle.std.specs.Prelude.{◌≡◌, [], ◌<◌, get_or, MatchResult};
+ghost use Rattle.std.specs.List.{position};
+ghost use Rattle.std.specs.Str.{bytes_eq};
+ghost use Rattle.refusals.specs.declared.Refusal.TheVariants.{UnknownWord};
+ghost use Rattle.rules.specs.Actions.{kinds, kind_of};
 ghost use Rattle.script.specs.Words.{words, word_number};
+ghost use Rattle.script.specs.Asked.{Names};
 
-use rules::KINDS;
+use refusals::Refusal;
+use rules::Action;
 
-// 0 for board, 1 to KINDS for a step's kind, KINDS + 1 for any other word.
-#[tactic(auto, using(crate::proofs::WordLaws::same_pointwise), unfolding(crate::specs::Words::place_of))]
-pub(crate) fn word_number(w: &[u8]) -> u16
-    ensures { result ≡ word_number w.now }
-{
-    if w == b"board".as_slice() {
-        return 0;
-    }
-    if w == b"start".as_slice() {
-        return 1;
-    }
-    if w == b"send".as_slice() {
-        return 2;
-    }
-    if w == b"request".as_slice() {
-        return 3;
-    }
-    if w == b"deliver".as_slice() {
-        return 4;
-    }
-    if w == b"rest".as_slice() {
-        return 5;
-    }
-    if w == b"tick".as_slice() {
-        return 6;
-    }
-    if w == b"release".as_slice() {
-        return 7;
-    }
-    if w == b"move".as_slice() {
-        return 8;
-    }
-    KINDS + 1
+// Each step's word stands at the step's kind.
+const WORDS: [&[u8]; 9] = [
+    b"board", b"start", b"send", b"request", b"deliver", b"rest", b"tick", b"release", b"move",
+];
+
+// What a line's word asks for.
+#[derive(Clone, Copy)]
+pub(crate) enum Word {
+    Board,
+    Step(Action),
 }
 
-// A word at the start of a buffer; the answer is its length.
-fn copy_word(word: &[u8], out: &mut [u8]) -> usize
-    requires { length word.now ≤ length out.old }
-    ensures { (result ≡ length word.now) × (out.new ≡ sets out.old 0 word.now) }
+fn place_among(words: &[&[u8]], name: &[u8]) -> Option<usize>
+    ensures { result ≡ position (λ word. bytes_eq name.now word.now) words.now }
 {
-    placing::put_bytes(word, out, 0);
-    word.len()
+    words.iter().position(|word| name == *word)
 }
 
-// The word of a step's kind at the start of a buffer; the answer is its length.
-pub(crate) fn put_word(kind: u16, out: &mut [u8]) -> usize
-    requires { (1 ≤ kind) × (kind ≤ kinds) × (7 ≤ length out.old) }
-    ensures { (result ≡ length (get_or words kind [])) × (out.new ≡ sets out.old 0 (get_or words kind [])) }
+// The word that a line begins with.
+pub(crate) fn word_of(name: &[u8]) -> Result<Word, Refusal>
+    ensures { MatchResult result (λ word. Names word (word_number name.now)) (λ k. (k ≡ UnknownWord) × (kinds < word_number name.now)) }
 {
-    match kind {
-        1 => copy_word(b"start", out),
-        2 => copy_word(b"send", out),
-        3 => copy_word(b"request", out),
-        4 => copy_word(b"deliver", out),
-        5 => copy_word(b"rest", out),
-        6 => copy_word(b"tick", out),
-        7 => copy_word(b"release", out),
-        _ => copy_word(b"move", out),
+    match place_among(&WORDS, name) {
+        None => Err(Refusal::UnknownWord),
+        Some(0) => Ok(Word::Board),
+        Some(kind) => Ok(Word::Step(Action::from(kind as u16))),
     }
+}
+
+// The word that a step's line begins with.
+pub(crate) fn step_word(action: Action) -> &'static [u8]
+    ensures { result.now ≡ get_or words (kind_of action) [] }
+{
+    WORDS[action as usize]
 }

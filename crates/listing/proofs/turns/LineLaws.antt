@@ -15,6 +15,7 @@ use Rattle.script.specs.Lines.{reading}
 use Rattle.listing.specs.Parts.{Piece, later_piece, piece, before, part_within, part}
 use Rattle.listing.specs.Turns.{cursor_of, WritesPieces}
 use Rattle.listing.specs.declared.Cursor.{Cursor}
+use Rattle.listing.specs.declared.Cursor.TheVariants.{Beginning, Behind}
 use Rattle.listing.specs.declared.turns.Progress.{Progress}
 use Rattle.listing.proofs.PieceLaws.{turns_left}
 use Rattle.listing.proofs.PartLaws.{none, part_each, part_stopped, part_fewer_turns, part_room, empty_stops, part_then, writes_as}
@@ -22,14 +23,16 @@ use Rattle.listing.proofs.LengthLaws.{outcome_sound}
 
 -- ---- boards stay sound behind the beginning
 abbrev Safe : Cursor → Type 0
-Safe c = (c.begun ≡ true) × Sound c.board
+Safe Beginning = ⊥
+Safe (Behind p) = Sound p.board
 
 piece_safe : (c : Cursor) (s : List ℕ) → Safe c → Safe (piece c s).next
 unfolding piece later_piece
-piece_safe c s h = let b = h.0 in rw b (refl, outcome_sound c.board (reading false (up_to 10 (drop c.at s))) h.1)
+piece_safe Beginning s h = absurd h
+piece_safe (Behind p) s h = outcome_sound p.board (reading false (up_to 10 (drop p.at s))) h
 
-part_sound : (k : ℕ) (c : Cursor) (s : List ℕ) (room : ℕ) → Safe c → Sound (part_within k c s room).next.board
-part_sound k c s room = part_each s (λ c room p. Safe c → Sound p.next.board) (λ c room h. h.1) (λ c room p e l ih h. ih (piece_safe c s h)) k c room
+part_safe : (k : ℕ) (c : Cursor) (s : List ℕ) (room : ℕ) → Safe c → Safe (part_within k c s room).next
+part_safe k c s room = part_each s (λ c room p. Safe c → Safe p.next) (λ c room h. h) (λ c room p e l ih h. ih (piece_safe c s h)) k c room
 
 -- ---- one batch, and then the rest
 module _ {k : ℕ} {p q : Progress} {s out mid : List ℕ} (a : WritesPieces k p s out q mid) where
@@ -42,11 +45,11 @@ module _ {k : ℕ} {p q : Progress} {s out mid : List ℕ} (a : WritesPieces k p
   stays_inside : p.to ≤ length out → q.to ≤ length mid
   stays_inside l = omega (arith, same_length, a.to, part_room k (cursor_of p) s (length out - p.to))
 
-  stays_sound : Sound p.board → Sound q.board
-  stays_sound h = subst (λ (c : Cursor). Sound c.board) (sym a.cursor) (part_sound k (cursor_of p) s (length out - p.to) (refl, h))
+  stays_sound : Sound p.next.board → Sound q.next.board
+  stays_sound h = subst Safe (sym a.cursor) (part_safe k (cursor_of p) s (length out - p.to) h)
 
   -- a batch that wrote something took lines of the script
-  pub takes_lines : (q.to ≡ p.to → ⊥) → length s - q.at < length s - p.at
+  pub takes_lines : (q.to ≡ p.to → ⊥) → length s - q.next.at < length s - p.next.at
   takes_lines n = omega (arith, ap (λ (c : Cursor). turns_left c s) a.cursor, part_fewer_turns k (cursor_of p) s (length out - p.to) (omega (arith, a.to, n)))
 
   -- what is written behind it is written behind p
@@ -70,20 +73,20 @@ module _ {k : ℕ} {p q : Progress} {s out mid : List ℕ} (a : WritesPieces k p
       writes_as first same a.cursor a.to a.buffer
 
 -- behind the script's end there is nothing to write
-pub advances_none : (p : Progress) (s out : List ℕ) → length s ≤ p.at → WritesPieces (suc (length s)) p s out p out
-advances_none p s out l = writes_as (none (cursor_of p)) (part_stopped (suc (length s)) (cursor_of p) s (length out - p.to) (rw (le-leb (length s) p.at l))) refl (omega arith) refl
+pub advances_none : (p : Progress) (s out : List ℕ) → length s ≤ p.next.at → WritesPieces (suc (length s)) p s out p out
+advances_none p s out l = writes_as (none (cursor_of p)) (part_stopped (suc (length s)) (cursor_of p) s (length out - p.to) (rw (le-leb (length s) p.next.at l))) refl (omega arith) refl
 
 -- at the head of each turn: what is written from here on is written from p₀ on
 pub record LinesTurn (p₀ : Progress) (s out₀ : List ℕ) (p : Progress) (out : List ℕ) : Type 0 where
   pub inside : p.to ≤ length out
   pub same : length out ≡ length out₀
-  pub is_sound : p.at < length s → sound p.board ≡ true
+  pub is_sound : p.next.at < length s → sound p.next.board ≡ true
   pub gives : (r : Progress) (left : List ℕ) → WritesPieces (suc (length s)) p s out r left → WritesPieces (suc (length s)) p₀ s out₀ r left
 
-pub lines_go : {p₀ p q : Progress} {s out₀ out mid : List ℕ} {k : ℕ} → LinesTurn p₀ s out₀ p out → p.at < length s → WritesPieces k p s out q mid → LinesTurn p₀ s out₀ q mid
+pub lines_go : {p₀ p q : Progress} {s out₀ out mid : List ℕ} {k : ℕ} → LinesTurn p₀ s out₀ p out → p.next.at < length s → WritesPieces k p s out q mid → LinesTurn p₀ s out₀ q mid
 lines_go {p₀} {p} {q} {s} {out₀} {out} {mid} t l a = record {
   inside = stays_inside a t.inside;
   same = same_length a ∙ t.same;
-  is_sound = λ m. sound_tested q.board (stays_sound a (sound_claims p.board (t.is_sound l)));
+  is_sound = λ m. sound_tested q.next.board (stays_sound a (sound_claims p.next.board (t.is_sound l)));
   gives = λ r left b. t.gives r left (advances_then a t.inside b);
 }

@@ -3,8 +3,8 @@ use Rattle.std.proofs.Common.{◌-◌}
 use Rattle.listing.proofs.gathering.GatherLaws.{GatherTurn}
 use Rattle.listing.proofs.gathering.gather.Given as goal
 
-abbrev pub invariant-loop-i : goal.invariant-loop-i
-invariant-loop-i l = GatherTurn l.script l.from l.most l.steps l.refusals l.at l.i
+abbrev pub invariant-loop-count : goal.invariant-loop-count
+invariant-loop-count l = GatherTurn l.script l.from l.most l.steps l.refusals l.at l.count
 
-abbrev pub decreases-loop-i : goal.decreases-loop-i
-decreases-loop-i l = l.most - l.i
+abbrev pub decreases-loop-count : goal.decreases-loop-count
+decreases-loop-count l = l.most - l.count

@@ -1,11 +1,16 @@
 -- The lines that are left give what the whole gives.
-use Rattle.std.proofs.Common.{length, take, ◌-◌}
+use Rattle.std.proofs.Common.{◌≡◌, ◌≤◌, length, take}
+use Rattle.std.specs.Iterator.Adapters.{zip_first, zip_second}
+use Rattle.std.specs.Slice.Iter.{iter_rest}
 use Rattle.listing.specs.Turns.{rows_into}
-use Rattle.listing.proofs.rows.RowLaws.{RowTurn}
 use Rattle.listing.proofs.rows.write_rows.Given as goal
 
-abbrev pub invariant-loop-i : goal.invariant-loop-i
-invariant-loop-i l = RowTurn (rows_into l.line (take l.count l.refusals) l.answers l.debts l.at l.fn.out) (length l.fn.out) l.count l.refusals l.answers l.debts l.out l.number l.to l.i
-
-abbrev pub decreases-loop-i : goal.decreases-loop-i
-decreases-loop-i l = l.count - l.i
+abbrev pub invariant-loop-refusal : goal.invariant-loop-refusal
+invariant-loop-refusal l =
+    record {
+      can_next : (goal.iterator-loop-refusal).can_next l.refusal-iterator;
+      is_finite : (goal.iterator-loop-refusal).is_finite l.refusal-iterator;
+      inside : l.to ≤ length l.out;
+      gives : rows_into l.number (iter_rest (zip_first (zip_first l.refusal-iterator))) (iter_rest (zip_second (zip_first l.refusal-iterator))) (iter_rest (zip_second l.refusal-iterator)) l.to l.out
+          ≡ rows_into l.line (take l.count l.fn.refusals) l.fn.answers l.fn.debts l.at l.fn.out;
+    }

@@ -7,4 +7,4 @@ abbrev pub invariant-loop-p : goal.invariant-loop-p
 invariant-loop-p l = LinesTurn l.fn.p l.script l.fn.out l.p l.out
 
 abbrev pub decreases-loop-p : goal.decreases-loop-p
-decreases-loop-p l = length l.script - l.p.at
+decreases-loop-p l = length l.script - l.p.next.at
