@@ -16,6 +16,7 @@ pub fn listing_length(script: &[u8]) -> usize
     let mut part = [0u8; 32768];
     let mut c = beginning();
     let mut n = 0;
+    // The cursor moves by the lines that a part has, so this is no count.
     while !is_ended(c, script) {
         let p = list_part(c, script, &mut part);
         n += p.wrote.unwrap_or(0);
