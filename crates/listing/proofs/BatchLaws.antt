@@ -9,6 +9,10 @@ use borrow.Author.Tests.{le-leb, ne_eqb}
 use lib.ListN.{length, take, length-append}
 use lib.Dec.{leb, eqb}
 use lib.Seq.{sets, length-sets}
+use Rattle.std.specs.Prelude.{Option, Some, None, Result, Ok, Err}
+use Rattle.refusals.specs.Numbers.{number_of}
+use Rattle.refusals.specs.declared.Refusal.{Refusal}
+use Rattle.refusals.specs.declared.Refusal.TheVariants.{NoSuchKind}
 use Rattle.rules.specs.Events.{after_all, all_answers}
 use Rattle.rules.specs.Sheets.Finished.{told_from}
 use Rattle.rules.specs.Sound.{Sound}
@@ -21,7 +25,6 @@ use Rattle.rules.specs.declared.Batch.{Batch}
 use Rattle.rules.specs.declared.Board.{Board}
 use Rattle.rules.specs.declared.Action.TheVariants.{Unknown}
 use Rattle.rules.specs.declared.Outcome.{Outcome}
-use Rattle.rules.specs.declared.Ran.TheVariants.{Zeros}
 use Rattle.rules.specs.declared.StepRecord.{StepRecord}
 use Rattle.rules.specs.declared.Verdict.{Verdict}
 use Rattle.rules.specs.Lists.{after, answers}
@@ -34,18 +37,15 @@ use Rattle.rules.proofs.FinishedLaws.{verdict_sound}
 use Rattle.steps.specs.NoStep.{no_step}
 use Rattle.fields.proofs.Cases.{by_test}
 use Rattle.numbers.specs.Lines.{behind}
-use Rattle.script.specs.Lines.{reading, refusal_by}
-use Rattle.script.specs.declared.Reading.{Reading}
-use Rattle.script.specs.declared.Reading.TheVariants.{Opens, Asks, Refused}
+use Rattle.script.specs.Lines.{reading, step_by}
 use Rattle.texts.specs.Texts.{line_text, board_text}
-use Rattle.listing.specs.Scripts.{line_outcome, later_outcome}
+use Rattle.listing.specs.Scripts.{step_outcome, later_outcome}
 use Rattle.listing.specs.Bounds.{longest_line}
 use Rattle.listing.specs.Parts.{Piece, next_number, later_piece, piece, before, part_within}
 use Rattle.listing.specs.Endings.{board_after}
-use Rattle.listing.specs.Batches.{lines_at, place_after, record_of, records_of, refusals_of}
-use Rattle.listing.specs.Turns.{Gathers, bytes_of, row_text, rows_into}
+use Rattle.listing.specs.Batches.{lines_at, place_after, record_of, refusal_of, records_of, refusals_of}
+use Rattle.listing.specs.Turns.{Gathers, bytes_of, answer_of, row_text, rows_into}
 use Rattle.listing.specs.declared.gathering.Gathered.{Gathered}
-use Rattle.listing.proofs.StartLaws.{reading_number}
 use Rattle.listing.proofs.PieceLaws.{later_cursor, outcome_at}
 use Rattle.listing.proofs.LengthLaws.{outcome_sound, later_most}
 use Rattle.placing.specs.Placing.{written}
@@ -53,7 +53,7 @@ use Rattle.placing.proofs.Stores.{sets_append}
 use Rattle.placing.proofs.WriteLaws.{wrote_fits, wrote_short, written_fits, written_short}
 
 -- the lines of a batch from what it gives: refusals of bad lines, answers of steps and debts after them
-unfoldable pub rows_text : ℕ → List ℕ → List ℕ → List ℕ → List ℕ
+unfoldable pub rows_text : ℕ → List (Option Refusal) → List ℕ → List ℕ → List ℕ
 rows_text n [] js ds = []
 rows_text n (k ∷ ks) [] ds = []
 rows_text n (k ∷ ks) (j ∷ js) [] = []
@@ -65,7 +65,7 @@ number_after n zero = n
 number_after n (suc k) = number_after (next_number n) k
 
 -- where all lines fit, they are written one behind the other
-pub rows_fit : (n : ℕ) (ks js ds : List ℕ) (at : ℕ) (out : List ℕ) → length ks ≤ length js → length ks ≤ length ds → at + length (rows_text n ks js ds) ≤ length out
+pub rows_fit : (n : ℕ) (ks : List (Option Refusal)) (js ds : List ℕ) (at : ℕ) (out : List ℕ) → length ks ≤ length js → length ks ≤ length ds → at + length (rows_text n ks js ds) ≤ length out
     → rows_into n ks js ds at out ≡ record { line = number_after n (length ks); to = at + length (rows_text n ks js ds); left = sets out at (rows_text n ks js ds) }
 unfolding rows_into rows_text number_after
 rows_fit n [] js ds at out p q h = ap (λ (m : ℕ). record { line = n; to = m; left = out }) (sym (add-zero at))
@@ -83,7 +83,7 @@ rows_fit n (k ∷ ks) (j ∷ js) (d ∷ ds) at out p q h =
     ∙ ap (λ (x : List ℕ). record { line = number_after (next_number n) (length ks); to = at + length (row ++ more); left = x }) (sets_append out at row more)
 
 -- where the only line does not fit, nothing is written
-pub rows_short : (n : ℕ) (ks js ds : List ℕ) (at : ℕ) (out : List ℕ) → length ks ≤ 1 → at ≤ length out → length out < at + length (rows_text n ks js ds)
+pub rows_short : (n : ℕ) (ks : List (Option Refusal)) (js ds : List ℕ) (at : ℕ) (out : List ℕ) → length ks ≤ 1 → at ≤ length out → length out < at + length (rows_text n ks js ds)
     → rows_into n ks js ds at out ≡ record { line = number_after n (length ks); to = at; left = out }
 unfolding rows_into rows_text number_after
 rows_short n [] js ds at out p l h = refl
@@ -98,7 +98,7 @@ rows_short n (k ∷ []) (j ∷ js) (d ∷ ds) at out p l h =
 rows_short n (k ∷ i ∷ ks) (j ∷ js) (d ∷ ds) at out p l h = absurd (omega (arith, p))
 
 -- what stands behind the answers and the debts is not written
-pub rows_padded : (n : ℕ) (ks js ds xs ys : List ℕ) → length ks ≡ length js → length ks ≡ length ds → rows_text n ks (js ++ xs) (ds ++ ys) ≡ rows_text n ks js ds
+pub rows_padded : (n : ℕ) (ks : List (Option Refusal)) (js ds xs ys : List ℕ) → length ks ≡ length js → length ks ≡ length ds → rows_text n ks (js ++ xs) (ds ++ ys) ≡ rows_text n ks js ds
 unfolding rows_text
 rows_padded n [] js ds xs ys p q = refl
 rows_padded n (k ∷ ks) [] ds xs ys p q = absurd (omega (arith, p))
@@ -108,13 +108,13 @@ rows_padded n (k ∷ ks) (j ∷ js) (d ∷ ds) xs ys p q = ap (λ (x : List ℕ)
 -- ---- the text of a batch of lines
 unfoldable pub batch_text : ℕ → Board → List (List ℕ) → List ℕ
 batch_text n b [] = []
-batch_text n b (l ∷ ls) = board_text n (later_outcome b l).answer (later_outcome b l).board ++ batch_text (next_number n) (later_outcome b l).board ls
+batch_text n b (l ∷ ls) = board_text n (number_of (later_outcome b l).answer) (later_outcome b l).board ++ batch_text (next_number n) (later_outcome b l).board ls
 
 pub batch_most_lem : (n : ℕ) (b : Board) (ls : List (List ℕ)) → n ≤ 4294967295 → Sound b → length (batch_text n b ls) ≤ longest_line * length ls
 unfolding batch_text
 batch_most_lem n b [] p h = omega arith
 batch_most_lem n b (l ∷ ls) p h =
-    omega (arith, length-append (board_text n (later_outcome b l).answer (later_outcome b l).board) (batch_text (next_number n) (later_outcome b l).board ls), later_most n b l p h, batch_most_lem (next_number n) (later_outcome b l).board ls (omega arith) (outcome_sound b (reading false l) h))
+    omega (arith, length-append (board_text n (number_of (later_outcome b l).answer) (later_outcome b l).board) (batch_text (next_number n) (later_outcome b l).board ls), later_most n b l p h, batch_most_lem (next_number n) (later_outcome b l).board ls (omega arith) (outcome_sound b (step_by (reading false l)) h))
 
 -- ---- the pieces of a batch whose text fits
 unfoldable pub batch_piece : ℕ → ℕ → ℕ → Board → List ℕ → Piece
@@ -130,7 +130,7 @@ part_batched (suc k) at n b s room l =
     by_test (leb (length s) at) (λ e. rw e)
     (λ e.
     let o : Outcome = outcome_at at b s in
-    let row : List ℕ = board_text n o.answer o.board in
+    let row : List ℕ = board_text n (number_of o.answer) o.board in
     let rest : List ℕ = batch_text (next_number n) o.board (lines_at k (behind at s) s) in
     let m : length (row ++ rest) ≤ room = rw e at l in
     let sum = length-append row rest in
@@ -140,36 +140,31 @@ part_batched (suc k) at n b s room l =
 -- a record of kind 0 is refused and leaves a sound board as it was
 unknown_keeps : (b : Board) → Sound b → (step b no_step).board ≡ b
 unfolding record_rule effect applied sheet_sound_step sound_step
-unknown_keeps b h = ap (λ (o : Outcome). o.board) (step_sound b no_step h ∙ ap (λ (o : SheetOutcome). on_board b.rounds Unknown o) (refused_applied (view b) Unknown 0 0 16))
+unknown_keeps b h = ap (λ (o : Outcome). o.board) (step_sound b no_step h ∙ ap (λ (o : SheetOutcome). on_board b.rounds Unknown o) (refused_applied (view b) Unknown 0 0 NoSuchKind))
 
-line_board : (b : Board) → Sound b → (x : Reading) → (step b (record_of x)).board ≡ (line_outcome b x).board
-line_board b h (Opens m d n) = unknown_keeps b h
-line_board b h (Asks r) = refl
-line_board b h (Refused k) = unknown_keeps b h
+line_board : (b : Board) → Sound b → (x : Result StepRecord Refusal) → (step b (record_of x)).board ≡ (step_outcome b x).board
+line_board b h (Ok r) = refl
+line_board b h (Err k) = unknown_keeps b h
 
-line_answer : (b : Board) (x : Reading) → ((k : ℕ) → x ≡ Refused k → 1 ≤ k) → cond (eqb (refusal_by x) 0) (step b (record_of x)).answer (refusal_by x) ≡ (line_outcome b x).answer
-line_answer b (Opens m d n) f = refl
-line_answer b (Asks r) f = refl
-line_answer b (Refused k) f = rw (ne_eqb k 0 (λ z. omega (arith, f k refl, z)))
+line_answer : (b : Board) (x : Result StepRecord Refusal) → answer_of (refusal_of x) (number_of (step b (record_of x)).answer) ≡ number_of (step_outcome b x).answer
+line_answer b (Ok r) = refl
+line_answer b (Err k) = refl
 
 pub batch_board : (b : Board) (ls : List (List ℕ)) → Sound b → after b (records_of ls) ≡ board_after b ls
 unfolding after_all records_of board_after
 batch_board b [] h = refl
 batch_board b (l ∷ ls) h =
-    batch_board (step b (record_of (reading false l))).board ls (step_keeps_sound b (record_of (reading false l)) h)
-    ∙ ap (λ (c : Board). board_after c ls) (line_board b h (reading false l))
+    let x : Result StepRecord Refusal = step_by (reading false l) in
+    batch_board (step b (record_of x)).board ls (step_keeps_sound b (record_of x) h) ∙ ap (λ (c : Board). board_after c ls) (line_board b h x)
 
 pub batch_rows : (n : ℕ) (b : Board) (ls : List (List ℕ)) → Sound b → rows_text n (refusals_of ls) (answers b (records_of ls)) (debts b (records_of ls)) ≡ batch_text n b ls
 unfolding rows_text refusals_of records_of all_answers debts batch_text
 batch_rows n b [] h = refl
 batch_rows n b (l ∷ ls) h =
-    let x : Reading = reading false l in
-    let next : Sound (step b (record_of x)).board = step_keeps_sound b (record_of x) h in
-    ap (λ (t : List ℕ). line_text n (cond (eqb (refusal_by x) 0) (step b (record_of x)).answer (refusal_by x)) (step b (record_of x)).board.debt (told_from (step b (record_of x)).board.debt) ++ t)
-    (batch_rows (next_number n) (step b (record_of x)).board ls next)
-    ∙ ap (λ (v : Verdict). line_text n (cond (eqb (refusal_by x) 0) (step b (record_of x)).answer (refusal_by x)) (step b (record_of x)).board.debt v ++ batch_text (next_number n) (step b (record_of x)).board ls) (sym (verdict_sound (step b (record_of x)).board next))
-    ∙ ap (λ (k : ℕ). board_text n k (step b (record_of x)).board ++ batch_text (next_number n) (step b (record_of x)).board ls) (line_answer b x (λ k e. (reading_number false l k e).0))
-    ∙ ap (λ (c : Board). board_text n (line_outcome b x).answer c ++ batch_text (next_number n) c ls) (line_board b h x)
+    let x : Result StepRecord Refusal = step_by (reading false l) in
+    let c : Board = (step b (record_of x)).board in
+    let next : Sound c = step_keeps_sound b (record_of x) h in
+    rw (batch_rows (next_number n) c ls next, sym (verdict_sound c next), line_answer b x) (ap (λ (d : Board). board_text n (number_of (step_outcome b x).answer) d ++ batch_text (next_number n) d ls) (line_board b h x))
 
 pub records_length : (ls : List (List ℕ)) → length (records_of ls) ≡ length ls
 unfolding records_of
@@ -183,7 +178,7 @@ refusals_length (l ∷ ls) = ap suc (refusals_length ls)
 
 -- ---- what the core gives
 abbrev pub batch_done : Board → List StepRecord → Batch
-batch_done b rs = record { ran = Zeros (zeros (answers b rs)); board = after b rs; answers = padded (answers b rs); debts = padded (debts b rs) }
+batch_done b rs = record { ran = Ok (zeros (answers b rs)); board = after b rs; answers = padded (answers b rs); debts = padded (debts b rs) }
 
 batch_sound : (b : Board) (rs : List StepRecord) → Sound b → batch b rs ≡ batch_done b rs
 unfolding batch

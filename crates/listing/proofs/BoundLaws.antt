@@ -7,17 +7,19 @@ use native.Mathlib.Omega.{arith}
 use lib.ListN.{length, drop, length-append, length-drop}
 use lib.Dec.{leb}
 use borrow.Author.Tests.{eq-eqb, ne_eqb, le-leb, leb-true}
-use Rattle.rules.specs.Opening.{refused_by}
+use Rattle.std.specs.Prelude.{Result, Ok, Err}
+use Rattle.refusals.specs.Numbers.{number_of}
+use Rattle.refusals.specs.declared.Refusal.{Refusal}
 use Rattle.rules.specs.declared.Board.{Board}
 use Rattle.rules.specs.declared.Outcome.{Outcome}
 use Rattle.fields.specs.Fields.{past}
 use Rattle.fields.proofs.Cases.{by_cond}
 use Rattle.numbers.specs.Lines.{lines_within, lines_of}
 use Rattle.texts.specs.Texts.{heading, board_text, refused_text}
-use Rattle.listing.specs.Scripts.{later_outcome, start_outcome, text_of, later_lines, opened_lines, opened_text, listing}
+use Rattle.listing.specs.Scripts.{later_outcome, start_outcome, text_of, text_by, later_lines, opened_lines, opened_text, listing}
 use Rattle.listing.specs.Bounds.{longest_piece, longest_line, further_lines, further_listed, bound_by_lines, ListingBoundByLines, ListingBoundByLength, ListingBound}
-use Rattle.listing.specs.Parts.{Piece}
-use Rattle.listing.proofs.StartLaws.{Started, opened, refused, script_starts, first_text, refused_piece_lem}
+use Rattle.listing.specs.Parts.{opened_piece}
+use Rattle.listing.proofs.StartLaws.{Started, opened, refused, script_starts, first_text}
 use Rattle.listing.proofs.PieceLaws.{number_next}
 use Rattle.listing.proofs.LengthLaws.{first_most}
 use Rattle.listing.proofs.BatchLaws.{batch_text, batch_most_lem}
@@ -38,7 +40,7 @@ unfolding text_of later_lines batch_text
 later_batch n b [] p = refl
 later_batch n b (l ∷ ls) p =
     let next : Board = (later_outcome b l).board in
-    ap (λ (t : List ℕ). board_text n (later_outcome b l).answer next ++ t)
+    ap (λ (t : List ℕ). board_text n (number_of (later_outcome b l).answer) next ++ t)
     (later_batch (suc n) next ls (omega (arith, p)) ∙ ap (λ (m : ℕ). batch_text m next ls) (sym (number_next n (omega (arith, p)))))
 
 module _ (s : List ℕ) where
@@ -51,7 +53,7 @@ module _ (s : List ℕ) where
   started_most o (opened l e h d) =
       let ls : List (List ℕ) = drop 1 (lines_of s) in
       let first : List ℕ = board_text 0 0 o.board in
-      let text : opened_text o ls ≡ first ++ text_of (later_lines 1 o.board ls) = ap (λ (t : Bool). cond t (text_of (opened_lines o ls)) (refused_text o.answer)) (eq-eqb o.answer 0 e) in
+      let text : opened_text o ls ≡ first ++ text_of (later_lines 1 o.board ls) = ap (λ (r : Result (Unit {0}) Refusal). text_by r (opened_lines o.board ls)) e in
       let few : further_listed s ≡ length ls = ap (λ (t : Bool). cond t (length ls) 0) (le-leb (length s) 65535 l) in
       omega (
         arith,
@@ -60,16 +62,15 @@ module _ (s : List ℕ) where
         length-append first (text_of (later_lines 1 o.board ls)),
         length-append heading first,
         ap length (first_text s o (opened l e h d)),
-        ap (λ (k : ℕ). length (heading ++ board_text 0 k o.board)) e,
+        ap (λ (r : Result (Unit {0}) Refusal). length (heading ++ board_text 0 (number_of r) o.board)) e,
         first_most s o (opened l e h d),
         few,
         ap length (later_batch 1 o.board ls (omega (arith, l, further_few s))),
         batch_most_lem 1 o.board ls (omega arith) h,
       )
-  started_most o (refused k n e) =
+  started_most o (refused k e) =
       let ls : List (List ℕ) = drop 1 (lines_of s) in
-      let text : opened_text o ls ≡ refused_text k = ap (λ (x : Outcome). opened_text x ls) e ∙ ap (λ (t : Bool). cond t (text_of (opened_lines (refused_by k) ls)) (refused_text k)) (ne_eqb k 0 (λ z. omega (arith, n, z))) in
-      omega (arith, ap (λ (t : List ℕ). length (heading ++ t)) text, ap (λ (p : Piece). length p.text) (refused_piece_lem s o k n e), first_most s o (refused k n e))
+      omega (arith, ap (λ (x : Outcome). length (heading ++ opened_text x ls)) e, ap (λ (x : Outcome). length (opened_piece s x).text) e, first_most s o (refused k e))
 
 pub listing_bound_by_lines : ListingBoundByLines
 unfolding ListingBoundByLines bound_by_lines listing

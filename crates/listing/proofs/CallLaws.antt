@@ -8,6 +8,8 @@ use borrow.Author.Tests.{le-leb, leb-false, not-true}
 use lib.ListN.{length, length-append}
 use lib.Dec.{leb}
 use lib.Seq.{sets}
+use Rattle.std.specs.Prelude.{Result, Ok, Err}
+use Rattle.refusals.specs.declared.Refusal.{Refusal}
 use Rattle.rules.specs.Facts.{Claims, Check, check, test, judge}
 use Rattle.rules.proofs.FactLaws.{true_or_false, asked, judge_passed, true_not_false}
 use Rattle.rules.proofs.SoundLaws.{sound_tested, below_or_not}
@@ -20,8 +22,6 @@ use Rattle.listing.proofs.LengthLaws.{Kept, part_kept, piece_most}
 use Rattle.listing.specs.declared.Cursor.{Cursor}
 use Rattle.listing.specs.declared.Cursor.TheVariants.{Beginning, Behind}
 use Rattle.placing.specs.Placing.{Writes}
-use Rattle.placing.specs.declared.Wrote.{Wrote}
-use Rattle.placing.specs.declared.Wrote.TheVariants.{Count, Refused}
 use Rattle.placing.proofs.WriteLaws.{places}
 use Rattle.listing.specs.Scripts.{listing}
 use Rattle.listing.specs.Turns.{bytes_of}
@@ -104,13 +104,13 @@ parts_joined s rooms = record { joins = calls_rest beginning s rooms ∙ rest_be
 
 -- ---- a call that is not refused
 abbrev given : Cursor → List ℕ → List ℕ → Part
-given c s out = record { wrote = Count (length (part c s (length out)).text); cursor = (part c s (length out)).next }
+given c s out = record { wrote = Ok (length (part c s (length out)).text); cursor = (part c s (length out)).next }
 
 part_given : (c : Cursor) (s out : List ℕ) → Claims (asked (part_checks c s (length out))) → part_of c s out ≡ given c s out
 unfolding part_of
 part_given c s out ok =
-    ap (λ (w : Wrote). record { wrote = w; cursor = call_next c s (length out) }) (judge_passed Refused (part_checks c s (length out)) (Count (length (part c s (length out)).text)) ok)
-    ∙ ap (λ (n : Cursor). record { wrote = Count (length (part c s (length out)).text); cursor = n }) (judge_passed (λ k. c) (part_checks c s (length out)) (part c s (length out)).next ok)
+    ap (λ (w : Result ℕ Refusal). record { wrote = w; cursor = call_next c s (length out) }) (judge_passed Err (part_checks c s (length out)) (Ok (length (part c s (length out)).text)) ok)
+    ∙ ap (λ (n : Cursor). record { wrote = Ok (length (part c s (length out)).text); cursor = n }) (judge_passed (λ k. c) (part_checks c s (length out)) (part c s (length out)).next ok)
 
 buffer_given : (c : Cursor) (s out : List ℕ) → Claims (asked (part_checks c s (length out))) → part_buffer c s out ≡ sets out 0 (part c s (length out)).text
 unfolding part_buffer
@@ -185,5 +185,5 @@ pub whole_listed : (s out : List ℕ) {c : Cursor} {p : Part} {left : List ℕ} 
 whole_listed s out {c} {p} {left} b fits e f =
     let text : (part beginning s (length out)).text ≡ listing s = whole_text s (length out) fits in
     places (listing s) 0 out (omega (arith, fits))
-    (ap (λ (x : Part). x.wrote) (e ∙ ap (λ (k : Cursor). part_of k s out) b ∙ part_given beginning s out (whole_asked s (length out) fits)) ∙ ap (λ (t : List ℕ). Count (length t)) text)
+    (ap (λ (x : Part). x.wrote) (e ∙ ap (λ (k : Cursor). part_of k s out) b ∙ part_given beginning s out (whole_asked s (length out) fits)) ∙ ap (λ (t : List ℕ). Ok (length t)) text)
     (f ∙ ap (λ (k : Cursor). part_buffer k s out) b ∙ buffer_given beginning s out (whole_asked s (length out) fits) ∙ ap (λ (t : List ℕ). sets out 0 t) text)

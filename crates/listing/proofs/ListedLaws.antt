@@ -7,7 +7,9 @@ use native.Mathlib.Numerals.{add-one}
 use native.Mathlib.Omega.{arith}
 use lib.ListN.{length, take, get_or, length-append}
 use lib.Seq.{take-append-add}
-use borrow.Author.Tests.{eq-eqb}
+use Rattle.std.specs.Prelude.{Result, Ok, Err}
+use Rattle.refusals.specs.Numbers.{number_of}
+use Rattle.refusals.specs.declared.Refusal.{Refusal}
 use Rattle.rules.specs.Events.{after_all}
 use Rattle.rules.specs.Lists.{steps, after, taking}
 use Rattle.rules.specs.Finished.{verdict}
@@ -19,58 +21,57 @@ use Rattle.rules.specs.declared.Board.{Board}
 use Rattle.rules.specs.declared.StepRecord.{StepRecord}
 use Rattle.rules.specs.declared.Outcome.{Outcome}
 use Rattle.rules.specs.declared.Verdict.{Verdict}
-use Rattle.rules.specs.declared.Verdict.TheVariants.{Working, Finished, Refused}
+use Rattle.rules.specs.declared.Verdict.TheVariants.{Working, Finished}
 use Rattle.fields.specs.Fields.{up_to}
-use Rattle.script.specs.Lines.{reading, parents_of}
-use Rattle.script.specs.declared.Reading.{Reading}
-use Rattle.script.specs.declared.Reading.TheVariants.{Opens, Asks, Refused as LineRefused}
+use Rattle.script.specs.Lines.{reading, parents_of, step_by}
+use Rattle.script.specs.declared.Line.{Line as ScriptLine}
+use Rattle.script.specs.declared.Line.TheVariants.{Opens, Asks}
 use Rattle.texts.specs.Texts.{heading, finished_word, state_word, refused_text}
-use Rattle.listing.specs.Scripts.{first_outcome, line_outcome, later_outcome, start_outcome, Line, text_of, later_lines, listing}
+use Rattle.listing.specs.Scripts.{first_outcome, step_outcome, later_outcome, start_outcome, Line, text_by, later_lines, listing}
 use Rattle.listing.specs.Listed.{OpenedBy, asked_by, steps_asked, Says, AllSay, later_of, lines_listed, ListingGuarantee}
 use Rattle.listing.specs.Endings.{board_after, end_outcome, EndsAsListed}
-use Rattle.listing.proofs.StartLaws.{reading_number, start_short, start_empty, start_first}
+use Rattle.listing.proofs.StartLaws.{ok_not_err, accepted_is, start_short, start_empty, start_first}
 
 -- ---- the word finished stands for the verdict finished alone
-word_finished : (v : Verdict) → state_word v ≡ finished_word → v ≡ Finished
-word_finished Working e = cc
-word_finished Finished e = refl
-word_finished (Refused k) e = cc
+word_finished : (v : Result Verdict Refusal) → state_word v ≡ finished_word → v ≡ Ok Finished
+word_finished (Ok Working) e = cc
+word_finished (Ok Finished) e = refl
+word_finished (Err k) e = cc
 
 -- ---- an accepted first line was read as a board line: every other is refused by a number
-opened_by : (s : List ℕ) → (start_outcome s).answer ≡ 0 → OpenedBy s
+opened_by : (s : List ℕ) → (start_outcome s).answer ≡ Ok tt → OpenedBy s
 opened_by s e =
     let short = start_short s e in
-    below_or_not (length s) 1 (λ p. absurd (omega (arith, e, ap (λ (o : Outcome). o.answer) (start_empty s short p))))
+    below_or_not (length s) 1 (λ p. absurd (ok_not_err (sym e ∙ ap (λ (o : Outcome). o.answer) (start_empty s short p))))
     (λ p. by_reading (reading true (up_to 10 s)) refl (start_first s short p))
   where
-    by_reading : (x : Reading) → reading true (up_to 10 s) ≡ x → start_outcome s ≡ first_outcome (parents_of (up_to 10 s)) x → OpenedBy s
-    by_reading (Opens m d n) is q = record { m = m; d = d; count = n; reads = is; opens = q }
-    by_reading (Asks r) is q = absurd (omega (arith, e, ap (λ (o : Outcome). o.answer) q))
-    by_reading (LineRefused k) is q = absurd (omega (arith, e, ap (λ (o : Outcome). o.answer) q, reading_number true (up_to 10 s) k is))
+    by_reading : (x : Result ScriptLine Refusal) → reading true (up_to 10 s) ≡ x → start_outcome s ≡ first_outcome (parents_of (up_to 10 s)) x → OpenedBy s
+    by_reading (Ok (Opens m d n)) is q = record { m = m; d = d; count = n; reads = is; opens = q }
+    by_reading (Ok (Asks r)) is q = absurd (ok_not_err (sym e ∙ ap (λ (o : Outcome). o.answer) q))
+    by_reading (Err k) is q = absurd (ok_not_err (sym e ∙ ap (λ (o : Outcome). o.answer) q))
 
 -- so the guarantee holds of every list of steps from its board on
-opened_guaranteed : (s : List ℕ) → (start_outcome s).answer ≡ 0 → OpenedBy s → (rs : List StepRecord) → Guaranteed (start_outcome s).board (taking rs) (after (start_outcome s).board rs)
+opened_guaranteed : (s : List ℕ) → (start_outcome s).answer ≡ Ok tt → OpenedBy s → (rs : List StepRecord) → Guaranteed (start_outcome s).board (taking rs) (after (start_outcome s).board rs)
 opened_guaranteed s e o rs =
     subst (λ (x : Outcome). Guaranteed x.board (taking rs) (after x.board rs)) (sym o.opens)
-    (steps_guaranteed o.m o.d (parents_of (up_to 10 s)) rs (sym (ap (λ (x : Outcome). x.answer) o.opens) ∙ e))
+    (steps_guaranteed o.m o.d (parents_of (up_to 10 s)) rs (ap number_of (sym (ap (λ (x : Outcome). x.answer) o.opens) ∙ e)))
 
 -- ---- the board after script lines is the one that their steps left
-line_after : (b : Board) (x : Reading) → (line_outcome b x).board ≡ after b (asked_by x)
+line_after : (b : Board) (x : Result StepRecord Refusal) → (step_outcome b x).board ≡ after b (asked_by x)
 unfolding after_all
-line_after b (Opens m d n) = refl
-line_after b (Asks r) = refl
-line_after b (LineRefused k) = refl
+line_after b (Ok r) = refl
+line_after b (Err k) = refl
 
 steps_append : (ks ls : List (List ℕ)) → steps_asked (ks ++ ls) ≡ steps_asked ks ++ steps_asked ls
 unfolding steps_asked
 steps_append [] ls = refl
-steps_append (k ∷ ks) ls = ap (λ (rs : List StepRecord). asked_by (reading false k) ++ rs) (steps_append ks ls) ∙ sym (append_assoc (asked_by (reading false k)) (steps_asked ks) (steps_asked ls))
+steps_append (k ∷ ks) ls = ap (λ (rs : List StepRecord). asked_by (step_by (reading false k)) ++ rs) (steps_append ks ls) ∙ sym (append_assoc (asked_by (step_by (reading false k))) (steps_asked ks) (steps_asked ls))
 
 one_line_more : (f : Board) (ks : List (List ℕ)) (l : List ℕ) → (later_outcome (after f (steps_asked ks)) l).board ≡ after f (steps_asked (ks ++ l ∷ []))
 unfolding steps_asked
 one_line_more f ks l =
-    let rs : List StepRecord = asked_by (reading false l) in
-    line_after (after f (steps_asked ks)) (reading false l)
+    let rs : List StepRecord = asked_by (step_by (reading false l)) in
+    line_after (after f (steps_asked ks)) (step_by (reading false l))
     ∙ sym (after_append steps f (steps_asked ks) rs)
     ∙ ap (λ (qs : List StepRecord). after f (steps_asked ks ++ qs)) (sym (append-nil rs))
     ∙ ap (after f) (sym (steps_append ks (l ∷ [])))
@@ -102,11 +103,12 @@ pub listing_guarantee : ListingGuarantee
 unfolding ListingGuarantee listing after_all steps_asked
 listing_guarantee s e =
     let o : Outcome = start_outcome s in
-    let by : OpenedBy s = opened_by s e in
-    let holds = opened_guaranteed s e by in
+    let ok = accepted_is o.answer e in
+    let by : OpenedBy s = opened_by s ok in
+    let holds = opened_guaranteed s ok by in
     record {
       opened = by;
-      text = ap (λ (t : Bool). heading ++ cond t (text_of (lines_listed s)) (refused_text o.answer)) (eq-eqb o.answer 0 e);
+      text = ap (λ (r : Result (Unit {0}) Refusal). heading ++ text_by r (lines_listed s)) ok;
       says = (line_says o.board holds (later_of s) _ refl, later_say o.board holds [] (later_of s) o.board refl);
     }
 
@@ -114,10 +116,10 @@ listing_guarantee s e =
 last_board : (n : ℕ) (l e : Line) (ls : List (List ℕ)) → (get_or (l ∷ later_lines n l.board ls) (length (later_lines n l.board ls)) e).board ≡ board_after l.board ls
 unfolding later_lines board_after
 last_board n l e [] = refl
-last_board n l e (x ∷ ls) = last_board (suc n) (record { number = n; answer = (later_outcome l.board x).answer; board = (later_outcome l.board x).board }) e ls
+last_board n l e (x ∷ ls) = last_board (suc n) (record { number = n; answer = number_of (later_outcome l.board x).answer; board = (later_outcome l.board x).board }) e ls
 
 pub ends_as_listed : EndsAsListed
 unfolding EndsAsListed end_outcome
 ends_as_listed s e h =
     let last : length (lines_listed s) - 1 ≡ length (later_lines 1 (start_outcome s).board (later_of s)) = omega arith in
-    rw (eq-eqb (start_outcome s).answer 0 h) (ap (λ (b : Board). record { answer = 0; board = b }) (sym (ap (λ (i : ℕ). (get_or (lines_listed s) i e).board) last ∙ last_board 1 (record { number = 0; answer = 0; board = (start_outcome s).board }) e (later_of s))))
+    rw (accepted_is (start_outcome s).answer h) (ap (λ (b : Board). record { answer = Ok tt; board = b }) (sym (ap (λ (i : ℕ). (get_or (lines_listed s) i e).board) last ∙ last_board 1 (record { number = 0; answer = 0; board = (start_outcome s).board }) e (later_of s))))

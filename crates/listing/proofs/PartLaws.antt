@@ -9,6 +9,7 @@ use lib.ListN.{length, length-append}
 use lib.Dec.{leb}
 use lib.Seq.{sets}
 use borrow.Author.Tests.{le-leb, leb-true}
+use Rattle.refusals.specs.Numbers.{number_of}
 use Rattle.rules.specs.Finished.{verdict}
 use Rattle.rules.specs.declared.Outcome.{Outcome}
 use Rattle.rules.proofs.FactLaws.{true_not_false}
@@ -99,10 +100,10 @@ piece_some : (c : Cursor) (s : List ℕ) → 1 ≤ length (piece c s).text
 unfolding piece later_piece
 piece_some Beginning s =
     let first : Outcome = start_outcome s in
-    omega (arith, ap length (start_text s), length-append heading (board_text 0 first.answer first.board))
+    omega (arith, ap length (start_text s), length-append heading (board_text 0 (number_of first.answer) first.board))
 piece_some (Behind p) s =
     let o : Outcome = outcome_at p.at p.board s in
-    omega (arith, line_length p.line o.answer o.board.debt (state_word (verdict o.board)))
+    omega (arith, line_length p.line (number_of o.answer) o.board.debt (state_word (verdict o.board)))
 
 -- every piece has a byte, so a part without any has no piece
 pub part_empty : (k : ℕ) (c : Cursor) (s : List ℕ) (room : ℕ) → length (part_within k c s room).text ≤ 0 → part_within k c s room ≡ none c

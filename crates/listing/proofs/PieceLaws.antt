@@ -9,6 +9,9 @@ use lib.ListN.{length, drop, get_or, length-drop, drop_of_length-le}
 use lib.Dec.{leb, eqb}
 use lib.Seq.{drop-cons}
 use borrow.Author.Tests.{eqb-true, leb-true, leb-false, le-leb}
+use Rattle.std.specs.Prelude.{Result, Ok, Err}
+use Rattle.refusals.specs.Numbers.{number_of}
+use Rattle.refusals.specs.declared.Refusal.{Refusal}
 use Rattle.rules.specs.declared.Board.{Board}
 use Rattle.rules.specs.declared.Outcome.{Outcome}
 use Rattle.fields.specs.Fields.{up_to, past}
@@ -16,8 +19,8 @@ use Rattle.fields.proofs.Cases.{by_test, by_cond, cond_second}
 use Rattle.numbers.proofs.LineLaws.{past_shorter, behind_drop, lines_behind}
 use Rattle.numbers.specs.Lines.{lines_within, behind}
 use Rattle.texts.specs.Texts.{heading, board_text, refused_text}
-use Rattle.listing.specs.Scripts.{later_outcome, start_outcome, text_of, later_lines, opened_text, listing}
-use Rattle.listing.specs.Parts.{beginning, ended, refused_piece, opened_piece, first_piece, next_number, later_piece, piece, rest_within, rest_from}
+use Rattle.listing.specs.Scripts.{later_outcome, start_outcome, text_of, text_by, opened_lines, later_lines, opened_text, listing}
+use Rattle.listing.specs.Parts.{beginning, ended, refused_piece, piece_by, first_piece, next_number, later_piece, piece, rest_within, rest_from}
 use Rattle.listing.proofs.StartLaws.{start_short, start_next}
 use Rattle.listing.specs.declared.Cursor.{Cursor}
 use Rattle.listing.specs.declared.Cursor.TheVariants.{Beginning, Behind}
@@ -60,27 +63,26 @@ rest_later (suc k) at n b s l m =
     let inside : at < length s = leb-false (length s) at e in
     let o : Outcome = outcome_at at b s in
     rw (e, lines_next k (drop at s) (omega (arith, inside, length-drop at s)), number_next n (omega (arith, m, inside)))
-    (ap (λ (x : List ℕ). board_text n o.answer o.board ++ x)
+    (ap (λ (x : List ℕ). board_text n (number_of o.answer) o.board ++ x)
     (rest_later k (behind at s) (suc n) o.board s (omega arith) (omega (arith, m, past_fewer at s inside)) ∙ ap (λ (t : List ℕ). later_text (suc n) o.board (lines_within k t)) (behind_drop at s l))))
 
 -- ---- the beginning
 -- a refused first line is the whole of what comes
-rest_refused : (k r : ℕ) (s : List ℕ) → (refused_piece s r).text ++ rest_within (suc k) (refused_piece s r).next s ≡ heading ++ refused_text r
+rest_refused : (k : ℕ) (r : Refusal) (s : List ℕ) → (refused_piece s r).text ++ rest_within (suc k) (refused_piece s r).next s ≡ heading ++ refused_text r
 unfolding rest_within
 rest_refused k r s = rw (le-leb (length s) (length s) (omega arith)) (append-nil (heading ++ refused_text r))
 
 module _ (k : ℕ) (s : List ℕ) (enough : length s ≤ k) where
-  rest_opened : (o : Outcome) → (o.answer ≡ 0 → length s ≤ 65535) → (opened_piece s o).text ++ rest_within (suc k) (opened_piece s o).next s ≡ heading ++ opened_text o (lines_within (suc k) (past 10 s))
+  rest_opened : (r : Result (Unit {0}) Refusal) (b : Board) → (r ≡ Ok tt → length s ≤ 65535) → (piece_by s b r).text ++ rest_within (suc k) (piece_by s b r).next s ≡ heading ++ text_by r (opened_lines b (lines_within (suc k) (past 10 s)))
   unfolding text_of
-  rest_opened o l =
-      by_test (eqb o.answer 0)
-      (λ e. rw (e, append_assoc) (ap (λ (x : List ℕ). heading ++ (board_text 0 0 o.board ++ x))
-      (rest_later (suc k) (behind 0 s) 1 o.board s (omega arith) (omega (arith, l (eqb-true o.answer 0 e))) ∙ ap (λ (t : List ℕ). later_text 1 o.board (lines_within (suc k) t)) (behind_drop 0 s (omega arith)))))
-      (λ e. rw e (rest_refused k o.answer s))
+  rest_opened (Ok _) b l =
+      rw append_assoc (ap (λ (x : List ℕ). heading ++ (board_text 0 0 b ++ x))
+      (rest_later (suc k) (behind 0 s) 1 b s (omega arith) (omega (arith, l refl)) ∙ ap (λ (t : List ℕ). later_text 1 b (lines_within (suc k) t)) (behind_drop 0 s (omega arith))))
+  rest_opened (Err e) b l = rest_refused k e s
 
   rest_first : rest_within (suc (suc k)) beginning s ≡ listing s
   unfolding rest_within piece first_piece listing
-  rest_first = rest_opened (start_outcome s) (start_short s) ∙ ap (λ (ls : List (List ℕ)). heading ++ opened_text (start_outcome s) ls) (lines_behind k s enough)
+  rest_first = rest_opened (start_outcome s).answer (start_outcome s).board (start_short s) ∙ ap (λ (ls : List (List ℕ)). heading ++ opened_text (start_outcome s) ls) (lines_behind k s enough)
 
 -- ---- more turns give no more text
 -- the turns that a cursor can need

@@ -1,11 +1,14 @@
 -- A listing in parts: from a cursor as many whole lines as fit, and the cursor behind them.
-use Rattle.std.specs.Prelude.{◌≡◌, Bool, true, false, not, cond, ◌&&◌, ◌||◌, List, [], ◌∷◌, ◌++◌, ℕ, zero, suc, ◌-◌, ◌≤◌, min, length, drop, leb, eqb}
+use Rattle.std.specs.Prelude.{◌≡◌, Bool, true, false, not, cond, ◌||◌, Result, Ok, Err, List, [], ◌∷◌, ◌++◌, ℕ, zero, suc, ◌-◌, ◌≤◌, min, length, drop, leb, eqb}
 use Rattle.std.proofs.lemmas.List.Edits.{sets}
+use Rattle.refusals.specs.Numbers.{number_of}
+use Rattle.refusals.specs.declared.Refusal.{Refusal}
+use Rattle.refusals.specs.declared.Refusal.TheVariants.{ScriptTooLong, NotSound, NoRoom}
 use Rattle.rules.specs.Facts.{Check, check, holds, judge}
 use Rattle.rules.specs.Sound.{sound}
 use Rattle.rules.specs.Opening.{blank_board}
+use Rattle.rules.specs.declared.Board.{Board}
 use Rattle.rules.specs.declared.Outcome.{Outcome}
-use Rattle.placing.specs.declared.Wrote.TheVariants.{Count, Refused}
 use Rattle.fields.specs.Fields.{up_to}
 use Rattle.numbers.specs.Lines.{behind}
 use Rattle.texts.specs.Texts.{heading, board_text, refused_text}
@@ -30,14 +33,15 @@ ended Beginning s = false
 ended (Behind p) s = leb (length s) p.at
 
 -- after a refused first line nothing follows
-abbrev pub refused_piece : List ℕ → ℕ → Piece
+abbrev pub refused_piece : List ℕ → Refusal → Piece
 refused_piece s k = record { text = heading ++ refused_text k; next = Behind (record { at = length s; line = 1; board = blank_board }) }
 
+abbrev pub piece_by : List ℕ → Board → Result (Unit {0}) Refusal → Piece
+piece_by s b (Ok _) = record { text = heading ++ board_text 0 0 b; next = Behind (record { at = behind 0 s; line = 1; board = b }) }
+piece_by s b (Err k) = refused_piece s k
+
 abbrev pub opened_piece : List ℕ → Outcome → Piece
-opened_piece s o =
-    cond (eqb o.answer 0)
-    (record { text = heading ++ board_text 0 0 o.board; next = Behind (record { at = behind 0 s; line = 1; board = o.board }) })
-    (refused_piece s o.answer)
+opened_piece s o = piece_by s o.board o.answer
 
 unfoldable pub first_piece : List ℕ → Piece
 first_piece s = opened_piece s (start_outcome s)
@@ -48,7 +52,7 @@ next_number n = min (suc n) 4294967295
 
 abbrev pub later_by : NextLine → List ℕ → Outcome → Piece
 later_by p s o = record {
-  text = board_text p.line o.answer o.board;
+  text = board_text p.line (number_of o.answer) o.board;
   next = Behind (record { at = behind p.at s; line = next_number p.line; board = o.board });
 }
 
@@ -95,9 +99,9 @@ may_be_led_to (Behind p) s = leb (length s) p.at || sound p.board
 -- is never refused: its part is empty
 abbrev pub part_checks : Cursor → List ℕ → ℕ → List Check
 part_checks c s room =
-    check (holds (may_be_listed c s)) 26
-    ∷ check (holds (may_be_led_to c s)) 30
-    ∷ check (holds (ended c s || leb (length (piece c s).text) room)) 27
+    check (holds (may_be_listed c s)) ScriptTooLong
+    ∷ check (holds (may_be_led_to c s)) NotSound
+    ∷ check (holds (ended c s || leb (length (piece c s).text) room)) NoRoom
     ∷ []
 
 -- what a call with a buffer of so many bytes adds to the listing, and the cursor behind it: a refused call adds nothing and keeps the cursor
@@ -110,7 +114,7 @@ call_next c s room = judge (λ k. c) (part_checks c s room) (part c s room).next
 -- what it gives, and how it leaves its buffer
 unfoldable pub part_of : Cursor → List ℕ → List ℕ → Part
 part_of c s out = record {
-  wrote = judge Refused (part_checks c s (length out)) (Count (length (part c s (length out)).text));
+  wrote = judge Err (part_checks c s (length out)) (Ok (length (part c s (length out)).text));
   cursor = call_next c s (length out);
 }
 

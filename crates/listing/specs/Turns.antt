@@ -1,14 +1,13 @@
 -- What the calls inside a listing in parts give: the place behind the first line, and a batch of lines gathered and written.
 -- For private contracts only; a reader of the claim may skip this.
-use Rattle.std.specs.Prelude.{true, cond, List, [], ◌∷◌, ◌≡◌, ℕ, ◌+◌, ◌-◌, ◌/◌, min, max, length, take, eqb, Result, Ok, Err}
+use Rattle.std.specs.Prelude.{Option, Some, None, Result, Ok, Err, List, [], ◌∷◌, ◌≡◌, ℕ, ◌+◌, ◌-◌, ◌/◌, min, max, length, take}
 use Rattle.std.proofs.lemmas.List.Edits.{sets}
+use Rattle.std.specs.Result.{result_unwrap_or}
 use Rattle.refusals.specs.Numbers.{number}
 use Rattle.refusals.specs.declared.Refusal.{Refusal}
 use Rattle.rules.specs.Sheets.Finished.{told_from}
 use Rattle.rules.specs.Runs.{batch_most}
 use Rattle.placing.specs.Placing.{wrote, written}
-use Rattle.placing.specs.declared.Wrote.{Wrote}
-use Rattle.placing.specs.declared.Wrote.TheVariants.{Count, Refused}
 use Rattle.numbers.specs.Lines.{behind}
 use Rattle.texts.specs.Texts.{line_text}
 use Rattle.listing.specs.Bounds.{longest_line}
@@ -21,8 +20,9 @@ use Rattle.listing.specs.declared.gathering.Gathered.{Gathered}
 use Rattle.listing.specs.declared.turns.Progress.{Progress}
 
 -- where the first piece leaves off, by its answer: behind the first line, or behind the whole script
-abbrev pub start_place : List ℕ → ℕ → ℕ
-start_place s k = cond (eqb k 0) (behind 0 s) (length s)
+abbrev pub start_place : List ℕ → Result (Unit {0}) Refusal → ℕ
+start_place s (Ok _) = behind 0 s
+start_place s (Err k) = length s
 
 -- the script lines ls gathered, with the place behind them
 pub record Gathers (g : Gathered) (ls : List (List ℕ)) (at : ℕ) : Type 0 where
@@ -32,13 +32,17 @@ pub record Gathers (g : Gathered) (ls : List (List ℕ)) (at : ℕ) : Type 0 whe
   pub place : g.at ≡ at
 
 -- ---- the lines of a batch written one behind the other
-abbrev pub bytes_of : Wrote → ℕ
-bytes_of (Count n) = n
-bytes_of (Refused k) = 0
+abbrev pub bytes_of : Result ℕ Refusal → ℕ
+bytes_of r = result_unwrap_or r 0
 
--- the line of a script line with the refusal k, or the answer j to its step, and the debt after it
-abbrev pub row_text : ℕ → ℕ → ℕ → ℕ → List ℕ
-row_text n k j debt = line_text n (cond (eqb k 0) j k) debt (told_from debt)
+-- the number that a script line is answered by: its refusal's, or the answer j to its step
+abbrev pub answer_of : Option Refusal → ℕ → ℕ
+answer_of None j = j
+answer_of (Some k) j = number k
+
+-- its line, with the debt after it
+abbrev pub row_text : ℕ → Option Refusal → ℕ → ℕ → List ℕ
+row_text n k j debt = line_text n (answer_of k j) debt (Ok (told_from debt))
 
 -- the number of the next line, the place behind the last byte, and the buffer
 pub record Placed : Type 0 where
@@ -47,7 +51,7 @@ pub record Placed : Type 0 where
   pub left : List ℕ
 
 -- a line that does not fit leaves the buffer and the place as they are
-unfoldable pub rows_into : ℕ → List ℕ → List ℕ → List ℕ → ℕ → List ℕ → Placed
+unfoldable pub rows_into : ℕ → List (Option Refusal) → List ℕ → List ℕ → ℕ → List ℕ → Placed
 rows_into n [] js ds at out = record { line = n; to = at; left = out }
 rows_into n (k ∷ ks) [] ds at out = record { line = n; to = at; left = out }
 rows_into n (k ∷ ks) (j ∷ js) [] at out = record { line = n; to = at; left = out }
@@ -59,8 +63,8 @@ cursor_of p = Behind p.next
 
 -- a call by what it has come to, or by what refuses it: then its cursor is the one handed over
 abbrev pub part_by : Cursor → Result Progress Refusal → Part
-part_by c (Ok p) = record { wrote = Count p.to; cursor = cursor_of p }
-part_by c (Err k) = record { wrote = Refused (number k); cursor = c }
+part_by c (Ok p) = record { wrote = Ok p.to; cursor = cursor_of p }
+part_by c (Err k) = record { wrote = Err k; cursor = c }
 
 -- how many lines surely fit in so many bytes, at most a batch; one where none surely does
 abbrev pub batch_size : ℕ → ℕ

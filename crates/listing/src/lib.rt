@@ -14,7 +14,7 @@ mod whole;
 pub use cursors::{beginning, is_ended};
 pub use endings::ending;
 pub use parts::list_part;
-use placing::Wrote;
+use refusals::Refusal;
 use rules::Board;
 pub use whole::{list_all, listing_length};
 
@@ -33,10 +33,10 @@ pub enum Cursor {
     Behind(NextLine),
 }
 
-// One part of a listing: how many bytes were written, or the number that refused the call, and the cursor behind it.
+// One part of a listing: how many bytes were written, or what refused the call, and the cursor behind it.
 // A refused call has a cursor too, the one that it was handed: from there a larger buffer goes on.
 #[derive(Clone, Copy)]
 pub struct Part {
-    pub wrote: Wrote,
+    pub wrote: Result<usize, Refusal>,
     pub cursor: Cursor,
 }

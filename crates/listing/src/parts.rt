@@ -7,8 +7,7 @@ ghost use Rattle.listing.specs.declared.Cursor.TheVariants.{Beginning, Behind};
 use crate::starting::{start_outcome, start_place, write_first};
 use crate::turns::{Progress, list_lines};
 use crate::{Cursor, NextLine, Part};
-use board::{finished, is_sound};
-use placing::Wrote;
+use board::is_sound;
 use refusals::Refusal;
 
 // From the beginning: the heading and the first line, and then the lines behind it.
@@ -16,10 +15,7 @@ fn list_first(script: &[u8], out: &mut [u8]) -> Result<Progress, Refusal>
     ensures { (part_by Beginning result ≡ part_of Beginning script.now out.old) × (out.new ≡ part_buffer Beginning script.now out.old) }
 {
     let o = start_outcome(script);
-    let to = write_first(o.answer, o.board.debt, finished(o.board), out);
-    if to == 0 {
-        return Err(Refusal::NoRoom);
-    }
+    let to = write_first(o, out)?;
     let next = NextLine {
         at: start_place(o.answer, script),
         line: 1,
@@ -61,11 +57,11 @@ pub fn list_part(c: Cursor, script: &[u8], out: &mut [u8]) -> Part
     };
     match listed {
         Ok(p) => Part {
-            wrote: Wrote::Count(p.to),
+            wrote: Ok(p.to),
             cursor: Cursor::Behind(p.next),
         },
-        Err(k) => Part {
-            wrote: Wrote::Refused(k.number()),
+        Err(refusal) => Part {
+            wrote: Err(refusal),
             cursor: c,
         },
     }

@@ -1,46 +1,37 @@
-// The first line of a script: the board that it opens, or the number that refuses it.
-ghost use Rattle.std.specs.Prelude.{◌≡◌, true, ◌++◌, ◌≤◌, take};
-ghost use Rattle.rules.specs.Opening.{opening, refused_by};
+// The first line of a script: the board that it opens, or what refuses it.
+ghost use Rattle.std.specs.Prelude.{◌≡◌, true, ◌++◌};
+ghost use Rattle.refusals.specs.Numbers.{number_of};
+ghost use Rattle.rules.specs.Opening.{refused_by};
 ghost use Rattle.script.specs.Lines.{reading, parents_of};
-ghost use Rattle.numbers.specs.Numbers.{room};
-ghost use Rattle.placing.specs.Placing.{wrote, written};
-ghost use Rattle.texts.specs.Texts.{heading, line_text};
+ghost use Rattle.placing.specs.Placing.{Writes};
+ghost use Rattle.texts.specs.Texts.{heading, board_text};
 ghost use Rattle.listing.specs.Scripts.{first_outcome, start_outcome};
-ghost use Rattle.listing.specs.Turns.{bytes_of, start_place};
+ghost use Rattle.listing.specs.Turns.{start_place};
 
-use crate::rows::bytes_of;
-use board::{blank, open};
-use numbers::{ROOM, line_at};
-use rules::{Outcome, Verdict};
-use script::{Reading, read_board};
+use board::{blank, finished, open};
+use numbers::line_at;
+use refusals::{Refusal, number_of};
+use rules::Outcome;
+use script::{Line, read_board};
 use texts::{write_heading, write_line};
 
-fn refused(answer: u16) -> Outcome
-    ensures { result ≡ refused_by answer }
+fn refused(refusal: Refusal) -> Outcome
+    ensures { result ≡ refused_by refusal }
 {
-    let board = blank();
-    Outcome { answer, board }
-}
-
-// The board that a board line opens, by the first of its entries.
-fn board_opened(m: u16, d: u16, parents: [u16; ROOM], count: u16) -> Outcome
-    requires { count ≤ room }
-    ensures { result ≡ opening m d (take count parents) }
-{
-    let n = count as usize;
-    open(m, d, &parents[0..n])
+    Outcome {
+        board: blank(),
+        answer: Err(refusal),
+    }
 }
 
 fn first_outcome(line: &[u8]) -> Outcome
     ensures { result ≡ first_outcome (parents_of line.now) (reading true line.now) }
 {
     let b = read_board(line);
-    let parents = b.parents;
-    let r = b.reading;
-    match r {
-        Reading::Opens(m, d, count) => board_opened(m, d, parents, count),
-        Reading::Asks(_) => refused(25),
-        Reading::Refused(k) => refused(k),
+    match b.reading {
+        Ok(Line::Opens(m, d, count)) => open(m, d, &b.parents[..usize::from(count)]),
+        Ok(Line::Asks(_)) => refused(Refusal::BoardLine),
+        Err(refusal) => refused(refusal),
     }
 }
 
@@ -49,35 +40,30 @@ pub(crate) fn start_outcome(script: &[u8]) -> Outcome
     ensures { result ≡ start_outcome script.now }
 {
     if script.len() > 65535 {
-        return refused(26);
+        return refused(Refusal::ScriptTooLong);
     }
-    if script.len() < 1 {
-        return refused(25);
+    if script.is_empty() {
+        return refused(Refusal::BoardLine);
     }
-    let l = line_at(script, 0);
-    let end = l.end;
-    first_outcome(&script[0..end])
+    first_outcome(&script[..line_at(script, 0).end])
 }
 
 // Where the first piece leaves off, by its answer.
-pub(crate) fn start_place(answer: u16, script: &[u8]) -> usize
+pub(crate) fn start_place(answer: Result<(), Refusal>, script: &[u8]) -> usize
     ensures { result ≡ start_place script.now answer }
 {
-    let l = line_at(script, 0);
-    if answer == 0 {
-        return l.next;
+    match answer {
+        Ok(()) => line_at(script, 0).next,
+        Err(_) => script.len(),
     }
-    script.len()
 }
 
 // The heading and the first line, or nothing. The line is written first: where it fits behind the heading, the heading fits too.
-pub(crate) fn write_first(answer: u16, debt: u64, state: Verdict, out: &mut [u8]) -> usize
-    ensures { (result ≡ bytes_of (wrote (heading ++ line_text 0 answer debt state) 0 out.old)) × (out.new ≡ written (heading ++ line_text 0 answer debt state) 0 out.old) }
+pub(crate) fn write_first(o: Outcome, out: &mut [u8]) -> Result<usize, Refusal>
+    ensures { Writes (heading ++ board_text 0 (number_of o.answer) o.board) 0 out.old result out.new }
 {
-    let n = bytes_of(write_line(0, answer as u64, debt, state, out, 23));
-    if n == 0 {
-        return 0;
-    }
-    write_heading(out, 0);
-    23 + n
+    let answer = u64::from(number_of(o.answer));
+    let n = write_line(0, answer, o.board.debt, finished(o.board), out, 23)?;
+    write_heading(out, 0).unwrap();
+    Ok(23 + n)
 }

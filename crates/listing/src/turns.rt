@@ -33,7 +33,14 @@ fn turn(p: Progress, script: &[u8], out: &mut [u8]) -> Progress
 {
     let g = gather(script, p.next.at, batch_size(out.len() - p.to));
     let done = run_batch(p.next.board, g.steps, g.count);
-    let w = write_rows(p.next.line, g.refusals, done.answers, done.debts, g.count, out, p.to);
+    let w = write_rows(
+        p.next.line,
+        &g.refusals[..g.count],
+        &done.answers,
+        &done.debts,
+        out,
+        p.to,
+    );
     if w.to == p.to {
         return p;
     }
@@ -50,6 +57,7 @@ pub(crate) fn list_lines(mut p: Progress, script: &[u8], out: &mut [u8]) -> Prog
     requires { (p.next.at < length script.now → sound p.next.board ≡ true) × (p.to ≤ length out.old) }
     ensures { WritesPieces (suc (length script.now)) p script.now out.old result out.new }
 {
+    // The cursor moves by the lines that a batch wrote, so this is no count.
     while p.next.at < script.len() {
         let to = p.to;
         p = turn(p, script, out);

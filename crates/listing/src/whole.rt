@@ -6,8 +6,7 @@ ghost use Rattle.listing.specs.Scripts.{listing};
 use crate::bounds::bound;
 use crate::cursors::{beginning, is_ended};
 use crate::parts::list_part;
-use crate::rows::bytes_of;
-use placing::Wrote;
+use refusals::Refusal;
 
 // How many bytes the listing of a script has. It is listed in parts, which are counted and thrown away: large parts, since towards the end of
 // each the batches get small.
@@ -17,9 +16,10 @@ pub fn listing_length(script: &[u8]) -> usize
     let mut part = [0u8; 32768];
     let mut c = beginning();
     let mut n = 0;
+    // The cursor moves by the lines that a part has, so this is no count.
     while !is_ended(c, script) {
         let p = list_part(c, script, &mut part);
-        n += bytes_of(p.wrote);
+        n += p.wrote.unwrap_or(0);
         c = p.cursor;
     }
     n
@@ -33,11 +33,11 @@ fn listing_fits(script: &[u8], room: usize) -> bool
 }
 
 // The whole listing of a script at the start of a buffer, or 27 and the buffer as it was.
-pub fn list_all(script: &[u8], out: &mut [u8]) -> Wrote
+pub fn list_all(script: &[u8], out: &mut [u8]) -> Result<usize, Refusal>
     ensures { Writes (listing script.now) 0 out.old result out.new }
 {
     if !listing_fits(script, out.len()) {
-        return Wrote::Refused(27);
+        return Err(Refusal::NoRoom);
     }
     list_part(beginning(), script, out).wrote
 }

@@ -10,20 +10,19 @@ ghost use Rattle.reading.specs.Output.{Arrives};
 ghost use Rattle.sheetdrain.specs.Drains.{script_drain};
 ghost use Rattle.sheetdrain.specs.Lines.{script_line};
 
-use drains::{Longest, longest_length};
+use drains::longest_length;
 use listing::ending;
 use reading::{Failure, read_input};
+use refusals::Refusal;
 use std::io;
 use std::io::{Read, Write};
 
 // A script whose first line is refused leaves no board to ask about.
-fn drain_of(script: &[u8]) -> Longest
+fn drain_of(script: &[u8]) -> Result<usize, Refusal>
     ensures { result ≡ script_drain script.now }
 {
     let end = ending(script);
-    if end.answer != 0 {
-        return Longest::Refused(end.answer);
-    }
+    end.answer?;
     longest_length(end.board)
 }
 
@@ -32,13 +31,14 @@ fn tell<W: Write>(to: &mut W, script: &[u8]) -> io::Result<()>
     ensures { OnOk result (Appends (W.contents to.old) (W.contents to.new) (script_line script.now)) }
 {
     match drain_of(script) {
-        Longest::Steps(n) => writeln!(to, "at most {n} steps more"),
-        Longest::Refused(k) => writeln!(to, "refused by {k}"),
+        Ok(n) => writeln!(to, "at most {n} steps more"),
+        Err(refusal) => writeln!(to, "refused by {}", refusal.number()),
     }
 }
 
 // Reads a script and tells of it; where a read failed, nothing. The buffer has one byte more than a script may have, so reading stops once it
 // is clear that the script is too long.
+// `sheetboard` has lines like these: one public function for both would take a closure, and a `requires` that it may be called.
 fn tell_input<R: Read, W: Write>(input: &mut R, to: &mut W) -> Result<(), Failure>
     ensures { Arrives script_line (R.remaining input.old) (W.contents to.old) (W.contents to.new) result }
 {

@@ -7,6 +7,8 @@ use native.Mathlib.Omega.{arith}
 use lib.ListN.{length, take, drop, length-drop, drop_of_length-le}
 use lib.Dec.{leb, eqb}
 use borrow.Author.Tests.{eqb-true, leb-false, lt-leb}
+use Rattle.std.specs.Prelude.{Result, Ok, Err}
+use Rattle.refusals.specs.declared.Refusal.{Refusal}
 use Rattle.rules.specs.Sound.{Sound, sound}
 use Rattle.rules.specs.Runs.{batch_most, batch}
 use Rattle.rules.proofs.SoundLaws.{sound_claims, sound_tested}
@@ -17,10 +19,10 @@ use Rattle.fields.specs.Fields.{up_to}
 use Rattle.fields.proofs.Cases.{by_test, by_bool, by_cond}
 use Rattle.numbers.specs.Lines.{lines_within, lines_of, behind}
 use Rattle.numbers.proofs.LineLaws.{behind_drop, lines_past, lines_first}
-use Rattle.script.specs.Lines.{reading}
+use Rattle.script.specs.Lines.{reading, step_by}
 use Rattle.listing.specs.Scripts.{later_outcome, start_outcome}
 use Rattle.listing.specs.Listed.{later_of}
-use Rattle.listing.specs.Endings.{board_after, end_outcome}
+use Rattle.listing.specs.Endings.{board_after, left_by, end_outcome}
 use Rattle.listing.specs.Batches.{lines_at, place_after}
 use Rattle.listing.specs.Turns.{start_place, Gathers}
 use Rattle.listing.specs.declared.gathering.Gathered.{Gathered}
@@ -38,7 +40,7 @@ after_append b (l ∷ ls) more = after_append (later_outcome b l).board ls more
 after_sound : (b : Board) (ls : List (List ℕ)) → Sound b → Sound (board_after b ls)
 unfolding board_after
 after_sound b [] h = h
-after_sound b (l ∷ ls) h = after_sound (later_outcome b l).board ls (outcome_sound b (reading false l) h)
+after_sound b (l ∷ ls) h = after_sound (later_outcome b l).board ls (outcome_sound b (step_by (reading false l)) h)
 
 -- ---- the lines from a place on: at most k of them, and those behind them
 lines_from : (k at : ℕ) (s : List ℕ) → lines_of (drop at s) ≡ lines_at k at s ++ lines_of (drop (place_after k at s) s)
@@ -100,9 +102,13 @@ unfolding board_after
 end_ends {p₀} {p} {s} t l = ap (board_after p.board) (sym (lines_ended p.at s l)) ∙ t.gives
 
 -- ---- the whole script
+left_behind : (s : List ℕ) (b : Board) (r : Result (Unit {0}) Refusal) → board_after b (lines_of (drop (start_place s r) s)) ≡ left_by r b (later_of s)
+unfolding board_after
+left_behind s b (Ok _) = ap (board_after b) (ap lines_of (behind_drop 0 s (omega arith)) ∙ lines_past s)
+left_behind s b (Err k) = ap (board_after b) (lines_ended (length s) s (omega arith))
+
 pub ending_is : (s : List ℕ) {o : Outcome} → o ≡ start_outcome s → {at : ℕ} → at ≡ start_place s o.answer → {b : Board} → b ≡ board_after o.board (lines_of (drop at s)) → record { answer = o.answer; board = b } ≡ end_outcome s
-unfolding end_outcome board_after
+unfolding end_outcome
 ending_is s {o} is {at} place {b} board =
-    subst (λ (x : Outcome). record { answer = o.answer; board = b } ≡ cond (eqb x.answer 0) (record { answer = 0; board = board_after x.board (later_of s) }) x) is
-    (by_test (eqb o.answer 0)
-    (λ e. rw (e, eqb-true o.answer 0 e, board, place, e, behind_drop 0 s (omega arith), lines_past s)) (λ e. rw (e, board, place, e, lines_ended (length s) s (omega arith))))
+    ap (λ (c : Board). record { answer = o.answer; board = c }) (board ∙ ap (λ (i : ℕ). board_after o.board (lines_of (drop i s))) place ∙ left_behind s o.board o.answer)
+    ∙ ap (λ (x : Outcome). record { answer = x.answer; board = left_by x.answer x.board (later_of s) }) is

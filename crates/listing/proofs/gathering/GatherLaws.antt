@@ -8,18 +8,19 @@ use native.Mathlib.Omega.{arith}
 use borrow.Author.Tests.{le-leb, lt-leb}
 use lib.ListN.{length, take, drop, set, length-take, length-set}
 use lib.Seq.{take-suc-set}
+use Rattle.std.specs.Prelude.{Option, Result}
+use Rattle.refusals.specs.declared.Refusal.{Refusal}
 use Rattle.rules.specs.Runs.{batch_most}
 use Rattle.rules.specs.declared.StepRecord.{StepRecord}
 use Rattle.fields.specs.Fields.{up_to}
 use Rattle.numbers.specs.Lines.{behind}
-use Rattle.script.specs.Lines.{reading, refusal_by}
-use Rattle.script.specs.declared.Reading.{Reading}
-use Rattle.listing.specs.Batches.{lines_at, place_after, record_of, records_of, refusals_of}
+use Rattle.script.specs.Lines.{reading, step_by}
+use Rattle.listing.specs.Batches.{lines_at, place_after, record_of, refusal_of, records_of, refusals_of}
 use Rattle.listing.specs.Turns.{Gathers}
 use Rattle.listing.proofs.BatchLaws.{records_length}
 
 -- at the head of each turn, with i lines gathered
-pub record GatherTurn (s : List ℕ) (from most : ℕ) (steps : List StepRecord) (refusals : List ℕ) (at i : ℕ) : Type 0 where
+pub record GatherTurn (s : List ℕ) (from most : ℕ) (steps : List StepRecord) (refusals : List (Option Refusal)) (at i : ℕ) : Type 0 where
   pub few : most ≤ batch_most
   pub within : i ≤ most
   pub room : (length steps ≡ batch_most) × (length refusals ≡ batch_most)
@@ -55,8 +56,8 @@ stored_next : {A : Type 0} (xs : List A) (i : ℕ) (x : A) (rest whole : List A)
 stored_next xs i x rest whole l e = rw (add-one, take-suc-set xs i x l, append_assoc) e
 
 -- ---- the turns
-module _ {s : List ℕ} {from most : ℕ} {steps : List StepRecord} {refusals : List ℕ} {at i : ℕ} (t : GatherTurn s from most steps refusals at i) where
-  pub turn_goes : i < most → at < length s → {x : Reading} → x ≡ reading false (up_to 10 (drop at s)) → {r : StepRecord} → r ≡ record_of x → {k : ℕ} → k ≡ refusal_by x → {next : ℕ} → next ≡ behind at s
+module _ {s : List ℕ} {from most : ℕ} {steps : List StepRecord} {refusals : List (Option Refusal)} {at i : ℕ} (t : GatherTurn s from most steps refusals at i) where
+  pub turn_goes : i < most → at < length s → {x : Result StepRecord Refusal} → x ≡ step_by (reading false (up_to 10 (drop at s))) → {r : StepRecord} → r ≡ record_of x → {k : Option Refusal} → k ≡ refusal_of x → {next : ℕ} → next ≡ behind at s
       → GatherTurn s from most (set steps i r) (set refusals i k) next (i + 1)
   unfolding records_of refusals_of
   turn_goes more inside {x} e {r} f {k} g {next} h = record {
@@ -73,7 +74,7 @@ module _ {s : List ℕ} {from most : ℕ} {steps : List StepRecord} {refusals : 
   }
 
   -- no line is left
-  turn_stops : lines_at (most - i) at s ≡ [] → place_after (most - i) at s ≡ at → Gathers (record { steps = steps; refusals = refusals; count = i; at = at }) (lines_at most from s) (place_after most from s)
+  turn_stops : lines_at (most - i) at s ≡ [] → place_after (most - i) at s ≡ at → Gathers (record { refusals = refusals; steps = steps; count = i; at = at }) (lines_at most from s) (place_after most from s)
   unfolding records_of refusals_of
   turn_stops e f =
       let all : take i steps ≡ records_of (lines_at most from s) = sym (append-nil (take i steps)) ∙ ap (λ (ls : List (List ℕ)). take i steps ++ records_of ls) (sym e) ∙ t.steps_are in
@@ -84,10 +85,10 @@ module _ {s : List ℕ} {from most : ℕ} {steps : List StepRecord} {refusals : 
         place = sym f ∙ t.place_is;
       }
 
-  pub turn_past : length s ≤ at → Gathers (record { steps = steps; refusals = refusals; count = i; at = at }) (lines_at most from s) (place_after most from s)
+  pub turn_past : length s ≤ at → Gathers (record { refusals = refusals; steps = steps; count = i; at = at }) (lines_at most from s) (place_after most from s)
   turn_past l = turn_stops (lines_none (most - i) at s l) (place_none (most - i) at s l)
 
-  pub turn_full : most ≤ i → Gathers (record { steps = steps; refusals = refusals; count = i; at = at }) (lines_at most from s) (place_after most from s)
+  pub turn_full : most ≤ i → Gathers (record { refusals = refusals; steps = steps; count = i; at = at }) (lines_at most from s) (place_after most from s)
   unfolding lines_at place_after
   turn_full l =
       let none : most - i ≡ 0 = omega arith in

@@ -2,7 +2,7 @@
 use mathlib.Core.Path.{◌≡◌, refl, sym, ap, subst, ◌∙◌}
 use mathlib.Core.Bool.{Bool, true, false, ◌||◌}
 use mathlib.Core.List.{List, ◌++◌, append-nil}
-use Prim.Native.Nat.{ℕ, suc, ◌-◌, ◌≤◌, ◌<◌}
+use Prim.Native.Nat.{ℕ, suc, ◌+◌, ◌-◌, ◌≤◌, ◌<◌}
 use native.Mathlib.Nat.{sub-zero}
 use native.Mathlib.Omega.{arith}
 use lib.ListN.{length, length-append}
@@ -10,27 +10,31 @@ use lib.Dec.{leb}
 use lib.Seq.{sets, length-sets}
 use borrow.Author.Tests.{le-leb, lt-leb, not-true}
 use Rattle.std.specs.Prelude.{Result, Ok, Err}
+use Rattle.refusals.specs.Numbers.{number_of}
 use Rattle.refusals.specs.declared.Refusal.{Refusal}
 use Rattle.refusals.specs.declared.Refusal.TheVariants.{ScriptTooLong, NotSound, NoRoom}
 use Rattle.rules.specs.Sound.{sound}
 use Rattle.rules.proofs.FactLaws.{true_or_false}
-use Rattle.rules.specs.Finished.{verdict}
 use Rattle.rules.specs.declared.Outcome.{Outcome}
-use Rattle.rules.specs.declared.Verdict.{Verdict}
-use Rattle.placing.specs.Placing.{wrote, written}
-use Rattle.placing.proofs.WriteLaws.{wrote_fits, wrote_short, written_fits, written_short, fits_or_short}
-use Rattle.placing.specs.declared.Wrote.TheVariants.{Count}
+use Rattle.placing.specs.Placing.{Writes}
+use Rattle.placing.proofs.WriteLaws.{wrote_fits, wrote_short, wrote_count, written_fits, written_short, fits_or_short}
 use Rattle.texts.proofs.TextLaws.{stored_then}
 use Rattle.listing.specs.Scripts.{start_outcome}
 use Rattle.listing.specs.Parts.{Piece, ended, first_piece, piece, stops, before, part_within, part, may_be_listed, may_be_led_to, part_of, part_buffer}
-use Rattle.listing.specs.Turns.{bytes_of, start_place, cursor_of, part_by, WritesPieces}
-use Rattle.texts.specs.Texts.{heading, line_text, board_text}
+use Rattle.listing.specs.Turns.{start_place, cursor_of, part_by, WritesPieces}
+use Rattle.texts.specs.Texts.{heading, board_text}
 use Rattle.listing.proofs.StartLaws.{start_cursor, start_text, start_next, start_asked}
 use Rattle.listing.proofs.PartLaws.{none, part_stopped, empty_stops, part_then}
 use Rattle.listing.specs.declared.NextLine.{NextLine}
 use Rattle.listing.specs.declared.Cursor.{Cursor}
 use Rattle.listing.specs.declared.Cursor.TheVariants.{Beginning, Behind}
 use Rattle.listing.specs.declared.turns.Progress.{Progress}
+
+ok_not_err : {n : ℕ} {k : Refusal} → ◌≡◌ {A = Result ℕ Refusal} (Ok n) (Err k) → ⊥
+ok_not_err e = cc
+
+err_same : {j k : Refusal} → ◌≡◌ {A = Result ℕ Refusal} (Err j) (Err k) → j ≡ k
+err_same e = cc
 
 -- what a call comes to, and what it leaves of its buffer
 abbrev pub Gives : Cursor → List ℕ → List ℕ → Result Progress Refusal → List ℕ → Type 0
@@ -57,7 +61,7 @@ module _ (c : Cursor) (s out : List ℕ) where
       → left ≡ sets out 0 (part c s (length out)).text → Gives c s out (Ok p) left
   unfolding part_of part_buffer
   gives_part e f g {p} n k l =
-      (ap (λ (m : ℕ). record { wrote = Count m; cursor = cursor_of p }) n ∙ ap (λ (d : Cursor). record { wrote = Count (length (part c s (length out)).text); cursor = d }) k ∙ sym (rw (e, f, g)), l ∙ sym (rw (e, f, g)))
+      (ap (λ (m : ℕ). record { wrote = Ok m; cursor = cursor_of p }) n ∙ ap (λ (d : Cursor). record { wrote = Ok (length (part c s (length out)).text); cursor = d }) k ∙ sym (rw (e, f, g)), l ∙ sym (rw (e, f, g)))
 
 -- ---- a cursor behind the beginning
 module _ (q : NextLine) (s out : List ℕ) where
@@ -143,44 +147,30 @@ module _ (s out : List ℕ) where
         (omega (arith, a.to, to, length-append text later.text, ap (λ (x : Piece). length x.text) whole)) (a.cursor ∙ ap (λ (x : Piece). x.next) whole)
         (stored_then text later.text 0 p.to out (omega (arith, to)) filled a.buffer ∙ ap (λ (x : Piece). sets out 0 x.text) whole)
 
--- ---- the calls that list from the beginning, on the outcome o of the first line: n bytes of the first piece are written, which leaves the buffer mid
-module _ (s out : List ℕ) {o : Outcome} (is : o ≡ start_outcome s) {v : Verdict} (said : v ≡ verdict o.board) {n : ℕ} {mid : List ℕ}
-    (bytes : n ≡ bytes_of (wrote (heading ++ line_text 0 o.answer o.board.debt v) 0 out)) (filled : mid ≡ written (heading ++ line_text 0 o.answer o.board.debt v) 0 out) where
-  text_is : heading ++ line_text 0 o.answer o.board.debt v ≡ (first_piece s).text
-  text_is = rw (said, is, start_text s)
+-- ---- the calls that list from the beginning, on the outcome o of the first line: the first piece is written, which leaves the buffer mid
+module _ (s out : List ℕ) {o : Outcome} (is : o ≡ start_outcome s) {r : Result ℕ Refusal} {mid : List ℕ} (w : Writes (heading ++ board_text 0 (number_of o.answer) o.board) 0 out r mid) where
+  first_written : Writes (first_piece s).text 0 out r mid
+  first_written = rw (is, sym (start_text s)) at w
 
-  bytes_are : n ≡ bytes_of (wrote (first_piece s).text 0 out)
-  bytes_are = rw text_is at bytes
+  pub start_27 : {k : Refusal} → r ≡ Err k → Gives Beginning s out (Err k) mid
+  start_27 {k} e =
+      fits_or_short (first_piece s).text 0 out (λ h. absurd (ok_not_err (sym (wrote_fits (first_piece s).text 0 out h) ∙ sym first_written.0 ∙ e)))
+      (λ h.
+      subst (λ (j : Refusal). Gives Beginning s out (Err j) mid) (err_same (sym (wrote_short (first_piece s).text 0 out h) ∙ sym first_written.0 ∙ e))
+      (subst (Gives Beginning s out (Err NoRoom)) (sym (first_written.1 ∙ written_short (first_piece s).text 0 out h)) (first_27 s out (omega (arith, h)))))
 
-  filled_is : mid ≡ written (first_piece s).text 0 out
-  filled_is = rw text_is at filled
-
-  some : 1 ≤ length (first_piece s).text
-  some = omega (arith, ap length (start_text s), length-append heading (board_text 0 (start_outcome s).answer (start_outcome s).board))
-
-  pub start_27 : n ≡ 0 → Gives Beginning s out (Err NoRoom) mid
-  start_27 z =
-      fits_or_short (first_piece s).text 0 out (λ h. absurd (omega (arith, z, some, bytes_are, ap bytes_of (wrote_fits (first_piece s).text 0 out h))))
-      (λ h. subst (Gives Beginning s out (Err NoRoom)) (sym (filled_is ∙ written_short (first_piece s).text 0 out h)) (first_27 s out (omega (arith, h))))
-
-  module _ (wrote_some : n ≡ 0 → ⊥) {at : ℕ} (place : at ≡ start_place s o.answer) where
-    it_fits : length (first_piece s).text ≤ length out
-    it_fits = fits_or_short (first_piece s).text 0 out (λ h. omega (arith, h)) (λ h. absurd (wrote_some (omega (arith, bytes_are, ap bytes_of (wrote_short (first_piece s).text 0 out h)))))
-
-    length_is : n ≡ length (first_piece s).text
-    length_is = bytes_are ∙ ap bytes_of (wrote_fits (first_piece s).text 0 out (omega (arith, it_fits)))
+  module _ {n : ℕ} (count : r ≡ Ok n) {at : ℕ} (place : at ≡ start_place s o.answer) where
+    length_is : (n ≡ length (first_piece s).text) × (0 + length (first_piece s).text ≤ length out)
+    length_is = wrote_count (first_piece s).text 0 out (sym first_written.0 ∙ count)
 
     mid_is : mid ≡ sets out 0 (first_piece s).text
-    mid_is = filled_is ∙ written_fits (first_piece s).text 0 out (omega (arith, it_fits))
+    mid_is = first_written.1 ∙ written_fits (first_piece s).text 0 out length_is.1
 
     -- what the listing of the later lines asks
     pub start_asks : (at < length s → sound o.board ≡ true) × (n ≤ length mid)
-    start_asks = (
-      start_asked s is place,
-      omega (arith, length_is, it_fits, ap length mid_is ∙ length-sets out 0 (first_piece s).text),
-    )
+    start_asks = (start_asked s is place, omega (arith, length_is, ap length mid_is ∙ length-sets out 0 (first_piece s).text))
 
-    pub start_part : {r : Progress} {left : List ℕ} → WritesPieces (suc (length s)) (record { next = record { at = at; line = 1; board = o.board }; to = n }) s mid r left
-        → Gives Beginning s out (Ok r) left
+    pub start_part : {p : Progress} {left : List ℕ} → WritesPieces (suc (length s)) (record { next = record { at = at; line = 1; board = o.board }; to = n }) s mid p left
+        → Gives Beginning s out (Ok p) left
     start_part a =
-        first_part s out it_fits (ap (λ (k : ℕ). Behind (record { at = k; line = 1; board = o.board })) place ∙ ap (start_cursor s) is ∙ sym (start_next s)) length_is mid_is a
+        first_part s out (omega (arith, length_is.1)) (ap (λ (k : ℕ). Behind (record { at = k; line = 1; board = o.board })) place ∙ ap (start_cursor s) is ∙ sym (start_next s)) length_is.0 mid_is a

@@ -9,6 +9,7 @@ use lib.ListN.{length}
 use lib.Dec.{eqb}
 use denote.Ref.{Bor}
 use Rattle.std.specs.Prelude.{Option, Some, None}
+use Rattle.refusals.specs.declared.Refusal.{Refusal}
 use Rattle.std.specs.Iterator.Adapters.{zip_first, zip_second}
 use Rattle.std.specs.Slice.Iter.{iter_rest}
 use Rattle.std.specs.declared.iter.Zip.{Zip}
@@ -62,14 +63,14 @@ wrote_inside text to out l =
     fits_or_short text to out (λ h. omega (arith, h, ap bytes_of (wrote_fits text to out h))) (λ h. omega (arith, l, ap bytes_of (wrote_short text to out h)))
 
 -- one entry more is written, and the rest gives what the whole gives
-pub row_goes : (number to : ℕ) (out : List ℕ) {ks js ds more_ks more_js more_ds left : List ℕ} {next k j d n : ℕ} {whole : Placed} → rows_into number ks js ds to out ≡ whole
+pub row_goes : (number to : ℕ) (out : List ℕ) {ks more_ks : List (Option Refusal)} {js ds more_js more_ds left : List ℕ} {k : Option Refusal} {next j d n : ℕ} {whole : Placed} → rows_into number ks js ds to out ≡ whole
     → (ks ≡ k ∷ more_ks) × (js ≡ j ∷ more_js) × (ds ≡ d ∷ more_ds) → left ≡ written (row_text number k j d) to out → n ≡ bytes_of (wrote (row_text number k j d) to out) → next ≡ next_number number
     → rows_into next more_ks more_js more_ds (to + n) left ≡ whole
 unfolding rows_into
 row_goes number to out gives more e f g = let h = rw (more.0, more.1, more.2) at gives in rw (g, f, e) h
 
 -- no entry is left
-pub row_ends : (n : ℕ) (ks js ds : List ℕ) (at : ℕ) (out : List ℕ) → (ks ≡ []) ⊎ (js ≡ []) ⊎ (ds ≡ []) → rows_into n ks js ds at out ≡ record { line = n; to = at; left = out }
+pub row_ends : (n : ℕ) (ks : List (Option Refusal)) (js ds : List ℕ) (at : ℕ) (out : List ℕ) → (ks ≡ []) ⊎ (js ≡ []) ⊎ (ds ≡ []) → rows_into n ks js ds at out ≡ record { line = n; to = at; left = out }
 unfolding rows_into
 row_ends n [] js ds at out e = refl
 row_ends n (k ∷ ks) [] ds at out e = refl

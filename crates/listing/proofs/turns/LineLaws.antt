@@ -11,7 +11,7 @@ use Rattle.rules.specs.Sound.{Sound, sound}
 use Rattle.rules.proofs.SoundLaws.{sound_claims, sound_tested}
 use Rattle.texts.proofs.TextLaws.{stored_then}
 use Rattle.fields.specs.Fields.{up_to}
-use Rattle.script.specs.Lines.{reading}
+use Rattle.script.specs.Lines.{reading, step_by}
 use Rattle.listing.specs.Parts.{Piece, later_piece, piece, before, part_within, part}
 use Rattle.listing.specs.Turns.{cursor_of, WritesPieces}
 use Rattle.listing.specs.declared.Cursor.{Cursor}
@@ -29,7 +29,7 @@ Safe (Behind p) = Sound p.board
 piece_safe : (c : Cursor) (s : List ℕ) → Safe c → Safe (piece c s).next
 unfolding piece later_piece
 piece_safe Beginning s h = absurd h
-piece_safe (Behind p) s h = outcome_sound p.board (reading false (up_to 10 (drop p.at s))) h
+piece_safe (Behind p) s h = outcome_sound p.board (step_by (reading false (up_to 10 (drop p.at s)))) h
 
 part_safe : (k : ℕ) (c : Cursor) (s : List ℕ) (room : ℕ) → Safe c → Safe (part_within k c s room).next
 part_safe k c s room = part_each s (λ c room p. Safe c → Safe p.next) (λ c room h. h) (λ c room p e l ih h. ih (piece_safe c s h)) k c room

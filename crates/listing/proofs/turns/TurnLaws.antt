@@ -7,6 +7,9 @@ use lib.ListN.{length, take, replicate, length-append}
 use lib.Dec.{leb}
 use lib.Seq.{sets}
 use borrow.Author.Tests.{lt-leb}
+use Rattle.std.specs.Prelude.{Option}
+use Rattle.refusals.specs.Numbers.{number_of}
+use Rattle.refusals.specs.declared.Refusal.{Refusal}
 use Rattle.rules.specs.Sound.{Sound}
 use Rattle.rules.specs.Lists.{answers}
 use Rattle.rules.specs.Runs.{debts, batch_most, padded, batch}
@@ -39,7 +42,7 @@ unfolding part_within lines_at batch_text piece later_piece
 part_short at n b s room l =
     by_test (leb (length s) at) (λ e. rw e)
     (λ e.
-    let row : List ℕ = board_text n (outcome_at at b s).answer (outcome_at at b s).board in
+    let row : List ℕ = board_text n (number_of (outcome_at at b s).answer) (outcome_at at b s).board in
     rw (e, lt-leb (length row) room (omega (arith, rw e at l, length-append row []))))
 
 -- ---- a batch, from what is gathered g, what the core gives d, and what is written w
@@ -82,7 +85,7 @@ module _ (p : Progress) (s out : List ℕ) (is_sound : Sound p.next.board) (insi
     rows_are : rows_text p.next.line (take g.count g.refusals) d.answers d.debts ≡ turn_text p s out
     rows_are =
         let rs : List StepRecord = records_of (turn_lines p s out) in
-        ap (λ (ks : List ℕ). rows_text p.next.line ks d.answers d.debts) gathers.refusals
+        ap (λ (ks : List (Option Refusal)). rows_text p.next.line ks d.answers d.debts) gathers.refusals
         ∙ ap (λ (x : Batch). rows_text p.next.line (refusals_of (turn_lines p s out)) x.answers x.debts) done
         ∙ rows_padded p.next.line (refusals_of (turn_lines p s out)) (answers p.next.board rs) (debts p.next.board rs) _ _ (omega (arith, refusals_length (turn_lines p s out), records_length (turn_lines p s out), answers_length p.next.board rs)) (omega (arith, refusals_length (turn_lines p s out), records_length (turn_lines p s out), debts_length p.next.board rs))
         ∙ batch_rows p.next.line p.next.board (turn_lines p s out) is_sound

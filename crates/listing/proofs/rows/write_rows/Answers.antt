@@ -1,43 +1,42 @@
 -- At each turn, the lines that are left from here give what the whole gives.
 use mathlib.Core.Path.{◌≡◌, sym, ap, ◌∙◌}
-use native.Mathlib.Omega.{arith}
-use native.Mathlib.Nat.{sub-zero}
-use borrow.Author.Rules.{rules}
-use mathlib.Core.Bool.{cond}
 use Prim.Native.Nat.{ℕ}
-use lib.Dec.{eqb}
-use lib.ListN.{take}
+use native.Mathlib.Omega.{arith}
+use borrow.Author.Rules.{rules}
+use Rattle.std.proofs.Common.{Result, Ok, Option}
+use Rattle.refusals.specs.declared.Refusal.{Refusal}
 use Rattle.rules.specs.Sheets.Finished.{told_from}
 use Rattle.rules.specs.declared.Verdict.{Verdict}
 use Rattle.texts.specs.Texts.{line_text}
-use Rattle.listing.specs.Turns.{bytes_of, row_text}
+use Rattle.listing.specs.Turns.{bytes_of, answer_of, row_text}
 use Rattle.listing.proofs.rows.RowLaws.{firsts, seconds, thirds, side_more, side_end, wrote_inside, row_goes, row_ends}
 use Rattle.listing.proofs.rows.write_rows.Goals as goal
 
+-- the line that a turn writes, as it is handed to the writer
+row_said : (n : ℕ) (k : Option Refusal) (j debt : ℕ) {m a b : ℕ} {v : Verdict} → m ≡ n → a ≡ b → b ≡ answer_of k j → v ≡ told_from debt → line_text m a debt (Ok v) ≡ row_text n k j debt
+row_said n k j debt e f g h = rw (e, f, g, h)
+
 pub loop-refusal-init : goal.loop-refusal-init
 loop-refusal-init c =
-    let ks : firsts c.into_iter-refusal-iterator.result ≡ take c.args.count c.args.refusals = rw (c.into_iter-refusal-iterator.ensures.into_iter_gives, c.zip-refusal-items.ensures.first, c.zip.ensures.first) c.iter.ensures.rest in
-    let js : seconds c.into_iter-refusal-iterator.result ≡ c.args.answers = cc in
-    let ds : thirds c.into_iter-refusal-iterator.result ≡ c.args.debts = cc in
+    let ks : firsts c.into_iter-refusal-iterator.result ≡ c.args.refusals.now = rw (c.into_iter-refusal-iterator.ensures.into_iter_gives, c.zip-refusal-items.ensures.first, c.zip.ensures.first) c.iter.ensures.rest in
+    let js : seconds c.into_iter-refusal-iterator.result ≡ c.args.answers.now = cc in
+    let ds : thirds c.into_iter-refusal-iterator.result ≡ c.args.debts.now = cc in
     record { can_next = search rules; is_finite = search rules; inside = search rules; gives = rw (ks, js, ds) }
-
--- the line that a turn writes, as it is handed to the writer
-row_said : (n k j debt : ℕ) {m a b : ℕ} {v : Verdict} → m ≡ n → a ≡ b → b ≡ cond (eqb k 0) j k → v ≡ told_from debt → line_text m a debt v ≡ row_text n k j debt
-row_said n k j debt e f g h = rw (e, f, g, h)
 
 pub overflow_add-to : goal.overflow_add-to
 overflow_add-to c =
-    omega (arith, c.bytes_of-to.ensures ∙ ap bytes_of c.write_line.ensures.0, wrote_inside (line_text c.from.result c.from-in-loop-refusal.result c.in-Some.debt.now c.state_of.result) c.loop-refusal.to c.loop-refusal.out c.loop-refusal.invariant.inside)
+    omega (arith, c.unwrap_or-to.ensures ∙ ap bytes_of c.write_line.ensures.0, wrote_inside (line_text c.from.result c.from-answer.result c.in-Some.debt.now (Ok c.state_of.result)) c.loop-refusal.to c.loop-refusal.out c.loop-refusal.invariant.inside)
 
 pub loop-refusal-preserved : goal.loop-refusal-preserved
 loop-refusal-preserved c =
-    let said = row_said c.loop-refusal.number c.in-Some.refusal.now c.in-Some.answer.now c.in-Some.debt.now c.from.ensures c.from-in-loop-refusal.ensures c.answer_of-answer.ensures c.state_of.ensures in
+    let said = row_said c.loop-refusal.number c.in-Some.refusal.now c.in-Some.answer.now c.in-Some.debt.now c.from.ensures c.from-answer.ensures c.answer_of.ensures c.state_of.ensures in
     let row = rw said at c.write_line.ensures in
+    let bytes = c.unwrap_or-to.ensures ∙ ap bytes_of row.0 in
     record {
       can_next = search rules;
       is_finite = search rules;
-      inside = omega (arith, c.write_line.auto.out, c.bytes_of-to.ensures ∙ ap bytes_of c.write_line.ensures.0, wrote_inside (line_text c.from.result c.from-in-loop-refusal.result c.in-Some.debt.now c.state_of.result) c.loop-refusal.to c.loop-refusal.out c.loop-refusal.invariant.inside);
-      gives = row_goes c.loop-refusal.number c.loop-refusal.to c.loop-refusal.out c.loop-refusal.invariant.gives (side_more c.loop-refusal.refusal-iterator c.next.new.self c.in-Some.is c.next.ensures.steps) row.1 (c.bytes_of-to.ensures ∙ ap bytes_of row.0) (omega (arith, c.saturating_add-number.ensures));
+      inside = omega (arith, c.write_line.auto.out, bytes, wrote_inside (row_text c.loop-refusal.number c.in-Some.refusal.now c.in-Some.answer.now c.in-Some.debt.now) c.loop-refusal.to c.loop-refusal.out c.loop-refusal.invariant.inside);
+      gives = row_goes c.loop-refusal.number c.loop-refusal.to c.loop-refusal.out c.loop-refusal.invariant.gives (side_more c.loop-refusal.refusal-iterator c.next.new.self c.in-Some.is c.next.ensures.steps) row.1 bytes (omega (arith, c.saturating_add-number.ensures));
     }
 
 pub returns : goal.returns

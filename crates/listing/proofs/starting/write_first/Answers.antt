@@ -6,12 +6,19 @@ use native.Mathlib.Nat.{add-zero}
 use native.Mathlib.Omega.{arith}
 use lib.ListN.{length, set, length-append}
 use lib.Seq.{sets, set_comm, length-sets}
-use Rattle.placing.specs.Placing.{wrote, written}
-use Rattle.placing.proofs.WriteLaws.{wrote_fits, wrote_short, written_fits, written_short, fits_or_short}
-use Rattle.texts.specs.Texts.{heading}
-use Rattle.listing.specs.Turns.{bytes_of}
-use Rattle.listing.proofs.LengthLaws.{line_some}
+use Rattle.std.proofs.Common.{Result, Ok, Err}
+use Rattle.refusals.specs.declared.Refusal.{Refusal}
+use Rattle.placing.specs.Placing.{Writes, written}
+use Rattle.placing.proofs.WriteLaws.{wrote_fits, wrote_short, wrote_count, written_fits, written_short, fits_or_short, places}
+use Rattle.std.proofs.lemmas.Result.{err_from_is_err_and}
+use Rattle.rules.specs.Finished.{verdict}
+use Rattle.rules.specs.declared.Board.{Board}
+use Rattle.rules.specs.declared.Verdict.{Verdict}
+use Rattle.texts.specs.Texts.{heading, line_text, board_text}
 use Rattle.listing.proofs.starting.write_first.Goals as goal
+
+ok_not_err : {n : ℕ} {k : Refusal} → ◌≡◌ {A = Result ℕ Refusal} (Ok n) (Err k) → ⊥
+ok_not_err e = cc
 
 -- a store in front of a run of stores
 set_before : (out : List ℕ) (i j x : ℕ) (b : List ℕ) → i < j → set (sets out j b) i x ≡ sets (set out i x) j b
@@ -26,40 +33,54 @@ sets_before out at (x ∷ a) b =
     ∙ ap (λ (k : ℕ). sets (sets (set out at x) k b) (suc at) a) (omega arith)
     ∙ sets_before (set out at x) (suc at) a b
 
--- b is written behind the place of a, and a in front of it where b fitted
-module _ (a b out : List ℕ) (some : 1 ≤ length b) {n : ℕ} {left : List ℕ} (bytes : n ≡ bytes_of (wrote b (length a) out)) (behind : left ≡ written b (length a) out) where
-  front_none : n ≡ 0 → (0 ≡ bytes_of (wrote (a ++ b) 0 out)) × (left ≡ written (a ++ b) 0 out)
-  front_none z =
-      fits_or_short b (length a) out (λ h. absurd (omega (arith, some, z, bytes, ap bytes_of (wrote_fits b (length a) out h))))
+-- b is written behind the place of a, and then a in front of it
+module _ (a b out : List ℕ) {left : List ℕ} where
+  front_refused : {k : Refusal} → Writes b (length a) out (Err k) left → Writes (a ++ b) 0 out (Err k) left
+  front_refused w =
+      fits_or_short b (length a) out (λ h. absurd (ok_not_err (sym (wrote_fits b (length a) out h) ∙ sym w.0)))
       (λ h.
       let short : length out < 0 + length (a ++ b) = omega (arith, h, length-append a b) in
-      (ap bytes_of (sym (wrote_short (a ++ b) 0 out short)), behind ∙ written_short b (length a) out h ∙ sym (written_short (a ++ b) 0 out short)))
+      (w.0 ∙ wrote_short b (length a) out h ∙ sym (wrote_short (a ++ b) 0 out short), w.1 ∙ written_short b (length a) out h ∙ sym (written_short (a ++ b) 0 out short)))
 
-  front_some : (n ≡ 0 → ⊥) → {last : List ℕ} → last ≡ written a 0 left → (length a + n ≡ bytes_of (wrote (a ++ b) 0 out)) × (last ≡ written (a ++ b) 0 out)
-  front_some z e =
-      fits_or_short b (length a) out
-      (λ h.
-      let fits : 0 + length (a ++ b) ≤ length out = omega (arith, h, length-append a b) in
-      let stored = behind ∙ written_fits b (length a) out h in (
-        omega (arith, bytes, ap bytes_of (wrote_fits b (length a) out h), ap bytes_of (wrote_fits (a ++ b) 0 out fits), length-append a b),
-        e ∙ written_fits a 0 left (omega (arith, h, ap length stored ∙ length-sets out (length a) b)) ∙ ap (λ (l : List ℕ). sets l 0 a) stored ∙ ap (λ (k : ℕ). sets (sets out k b) 0 a) (omega arith) ∙ sets_before out 0 a b
-            ∙ sym (written_fits (a ++ b) 0 out fits),
-      ))
-      (λ h. absurd (z (omega (arith, bytes, ap bytes_of (wrote_short b (length a) out h)))))
+  module _ {n : ℕ} (w : Writes b (length a) out (Ok n) left) where
+    counted : (n ≡ length b) × (length a + length b ≤ length out)
+    counted = wrote_count b (length a) out (sym w.0)
 
-  -- the count stays inside the buffer
-  front_inside : (n ≡ 0 → ⊥) → length a + n ≤ length out
-  front_inside z =
-      fits_or_short b (length a) out (λ h. omega (arith, h, bytes, ap bytes_of (wrote_fits b (length a) out h))) (λ h. absurd (z (omega (arith, bytes, ap bytes_of (wrote_short b (length a) out h)))))
+    stored : left ≡ sets out (length a) b
+    stored = w.1 ∙ written_fits b (length a) out counted.1
 
-pub returns-then-n-eq0 : goal.returns-then-n-eq0
-returns-then-n-eq0 c =
-    front_none heading _ _ (line_some 0 c.args.answer c.args.debt c.args.state) (c.bytes_of-n.ensures ∙ ap bytes_of c.write_line.ensures.0) c.write_line.ensures.1 c.if-n-eq0.true
+    pub front_fits : 0 + length a ≤ length left
+    front_fits = omega (arith, counted.1, ap length stored ∙ length-sets out (length a) b)
+
+    pub front_inside : length a + n ≤ length out
+    front_inside = omega (arith, counted.0, counted.1)
+
+    pub front_placed : {last : List ℕ} → last ≡ written a 0 left → Writes (a ++ b) 0 out (Ok (length a + n)) last
+    front_placed e =
+        places (a ++ b) 0 out (omega (arith, counted.1, length-append a b)) (ap Ok (omega (arith, counted.0, length-append a b)))
+        (e ∙ written_fits a 0 left front_fits ∙ ap (λ (l : List ℕ). sets l 0 a) stored ∙ ap (λ (k : ℕ). sets (sets out k b) 0 a) (omega arith) ∙ sets_before out 0 a b)
+
+-- the answer as it is handed to the line writer
+said : (b : Board) {n k : ℕ} {v : Result Verdict Refusal} → n ≡ k → v ≡ verdict b → line_text 0 n b.debt v ≡ board_text 0 k b
+said b e f = rw (e, f)
+
+pub returns-in_err-n : goal.returns-in_err-n
+returns-in_err-n c =
+    let p = err_from_is_err_and c.from_residual.result c.from_residual.ensures.1 in
+    let e = said c.args.o.board (c.from-answer.ensures ∙ c.number_of.ensures) c.finished.ensures.told in
+    let h = rw (e, c.in_err-n.was) at c.write_line.ensures in
+    rw (p.1, p.2) (front_refused heading _ _ h)
+
+pub unwrap-requires : goal.unwrap-requires
+unwrap-requires c =
+    let h = rw c.in_ok-n.was at c.write_line.ensures in
+    rw (c.write_heading.ensures.0, wrote_fits heading 0 c.write_line.new.out (front_fits heading _ _ h))
 
 pub overflow_add-result : goal.overflow_add-result
-overflow_add-result c =
-    omega (arith, front_inside heading _ _ (line_some 0 c.args.answer c.args.debt c.args.state) (c.bytes_of-n.ensures ∙ ap bytes_of c.write_line.ensures.0) c.write_line.ensures.1 c.if-n-eq0.false)
+overflow_add-result c = let h = rw c.in_ok-n.was at c.write_line.ensures in omega (arith, front_inside heading _ _ h)
 
 pub returns : goal.returns
 returns c =
-    front_some heading _ _ (line_some 0 c.args.answer c.args.debt c.args.state) (c.bytes_of-n.ensures ∙ ap bytes_of c.write_line.ensures.0) c.write_line.ensures.1 c.if-n-eq0.false c.write_heading.ensures.1
+    let e = said c.args.o.board (c.from-answer.ensures ∙ c.number_of.ensures) c.finished.ensures.told in
+    let h = rw (e, c.in_ok-n.was) at c.write_line.ensures in
+    front_placed heading _ _ h c.write_heading.ensures.1

@@ -5,9 +5,11 @@ use Rattle.listing.proofs.LengthLaws.{lines_most}
 use Rattle.listing.proofs.turns.TurnLaws.{turn_kept, turn_wrote}
 use Rattle.listing.proofs.turns.turn.Goals as goal
 
+pub shared_ref_as_front-write_rows : goal.shared_ref_as_front-write_rows
+shared_ref_as_front-write_rows c = omega (arith, c.gather-g.ensures.count, lines_most c.batch_size.result c.args.p.next.at c.args.script.now, c.batch_size.ensures)
+
 pub write_rows-w-requires : goal.write_rows-w-requires
-write_rows-w-requires c =
-    (omega (arith, c.gather-g.ensures.count, lines_most c.batch_size.result c.args.p.next.at c.args.script.now, c.batch_size.ensures), c.requires.1)
+write_rows-w-requires c = c.requires.1
 
 pub returns-then-w-p : goal.returns-then-w-p
 returns-then-w-p c =

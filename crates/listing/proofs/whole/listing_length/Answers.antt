@@ -10,7 +10,7 @@ loop-part-init c = (search rules, counting_begins c.args.script.now c.beginning-
 
 pub overflow_add-n : goal.overflow_add-n
 overflow_add-n c =
-    omega (arith, counting_fits c.loop-part.invariant.1 (sym c.is_ended.ensures ∙ c.loop-part-test.true) c.loop-part.part (omega (arith, c.loop-part.invariant.0)) c.list_part-p.ensures.0 c.bytes_of-n.ensures)
+    omega (arith, counting_fits c.loop-part.invariant.1 (sym c.is_ended.ensures ∙ c.loop-part-test.true) c.loop-part.part (omega (arith, c.loop-part.invariant.0)) c.list_part-p.ensures.0 c.unwrap_or-n.ensures)
 
 pub loop-part-smaller : goal.loop-part-smaller
 loop-part-smaller c =
@@ -19,7 +19,7 @@ loop-part-smaller c =
 pub loop-part-preserved : goal.loop-part-preserved
 loop-part-preserved c = (
   search rules,
-  counting_goes c.loop-part.invariant.1 (sym c.is_ended.ensures ∙ c.loop-part-test.true) c.loop-part.part (omega (arith, c.loop-part.invariant.0)) c.list_part-p.ensures.0 c.bytes_of-n.ensures,
+  counting_goes c.loop-part.invariant.1 (sym c.is_ended.ensures ∙ c.loop-part-test.true) c.loop-part.part (omega (arith, c.loop-part.invariant.0)) c.list_part-p.ensures.0 c.unwrap_or-n.ensures,
 )
 
 pub returns : goal.returns
