@@ -1,25 +1,19 @@
 // Censuses of the least and the largest size, then of sizes and parents that are refused.
 use crate::rows::Rows;
-use census::{Counted, Ends};
+use census::Ends;
+use refusals::number_of;
 use std::io;
 
 // The most parents of a call, 2^16 + 1: narrowed to 16 bits, that count would be in reach.
 const MOST: usize = 65537;
 
-// The refusal and the three counts, 0 where there are none.
-fn told(c: Counted) -> (u16, Ends) {
-    let none = Ends {
-        finished: 0,
-        busy: 0,
-        other: 0,
-    };
-    match c {
-        Counted::Lists(ends) => (0, ends),
-        Counted::Refused(k) => (k, none),
-    }
-}
+const NONE: Ends = Ends {
+    finished: 0,
+    busy: 0,
+    other: 0,
+};
 
-// What is asked, the first two parents among it, and what the census gives.
+// What is asked, the first two parents among it, and what the census gives: the refusal and the three counts, 0 where there are none.
 fn row<P: Print>(
     rows: &mut Rows<'_, P>,
     m: u16,
@@ -27,7 +21,9 @@ fn row<P: Print>(
     parents: &[u16],
     length: u16,
 ) -> io::Result<()> {
-    let (refusal, ends) = told(census::census(m, d, parents, length));
+    let counted = census::census(m, d, parents, length);
+    let refusal = number_of(counted);
+    let ends = counted.unwrap_or(NONE);
     let count = parents.len();
     let first = parents.first().copied().unwrap_or(0);
     let second = parents.get(1).copied().unwrap_or(0);

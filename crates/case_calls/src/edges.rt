@@ -1,17 +1,9 @@
 // Calls of a writer about the edges of its room: the first part of a buffer of 40 bytes.
 use crate::rows::Rows;
-use placing::Wrote;
+use refusals::{Refusal, number_of};
 use std::io;
 
 const BYTES: usize = 40;
-
-// The refusal and the bytes written, of which the one that there is not is 0.
-fn told(wrote: Wrote) -> (u16, usize) {
-    match wrote {
-        Wrote::Count(n) => (0, n),
-        Wrote::Refused(k) => (k, 0),
-    }
-}
 
 // Each byte counts once more than its index says: from the last byte on, what was added so far is added up.
 fn checksum(buffer: [u8; BYTES]) -> u64 {
@@ -25,8 +17,9 @@ fn checksum(buffer: [u8; BYTES]) -> u64 {
     sum
 }
 
-// What the writer is asked, what it answers, and what the buffer holds after it.
-fn row<P: Print, F: Fn(&mut [u8], usize) -> Wrote>(
+// What the writer is asked, the refusal and the bytes written, of which the one that there is not is 0, and what the buffer holds after
+// it.
+fn row<P: Print, F: Fn(&mut [u8], usize) -> Result<usize, Refusal>>(
     rows: &mut Rows<'_, P>,
     name: u16,
     write: &F,
@@ -37,7 +30,9 @@ fn row<P: Print, F: Fn(&mut [u8], usize) -> Wrote>(
 {
     let mut buffer = [b'.'; BYTES];
     let lent = room.min(BYTES);
-    let (refusal, count) = told(write(&mut buffer[..lent], at));
+    let wrote = write(&mut buffer[..lent], at);
+    let refusal = number_of(wrote);
+    let count = wrote.unwrap_or(0);
     rows.begin()?;
     println!(rows.to;
         "\t{name}\t{lent}\t{at}\t{refusal}\t{count}\t{}",
@@ -46,15 +41,14 @@ fn row<P: Print, F: Fn(&mut [u8], usize) -> Wrote>(
 }
 
 // Five rooms about as large as the text, with each of them five places. A text that is refused whatever the room counts as one byte.
-pub(crate) fn all<P: Print, F: Fn(&mut [u8], usize) -> Wrote>(
+pub(crate) fn all<P: Print, F: Fn(&mut [u8], usize) -> Result<usize, Refusal>>(
     rows: &mut Rows<'_, P>,
     name: u16,
     write: F,
 ) -> io::Result<()>
     requires { F.IsAlwaysCallable write }
 {
-    let (_, count) = told(write(&mut [0u8; BYTES], 0));
-    let length = count.max(1);
+    let length = write(&mut [0u8; BYTES], 0).unwrap_or(0).max(1);
     for room in [
         0,
         length.wrapping_sub(1),

@@ -1,7 +1,8 @@
 // Runs over the first steps of a list, with a buffer of some length.
 use crate::rows::Rows;
-use casetext::{Step, list_of};
-use rules::{Board, Ran};
+use casetext::Step;
+use refusals::number_of;
+use rules::{Board, StepRecord};
 use std::io;
 
 const STEPS: [Step; 4] = [
@@ -11,21 +12,15 @@ const STEPS: [Step; 4] = [
     Step::Unknown(65535), // 16
 ];
 
-// The refusal and the zeros written, of which the one that there is not is 0.
-fn ran(r: Ran) -> (u16, usize) {
-    match r {
-        Ran::Zeros(n) => (0, n),
-        Ran::Refused(k) => (k, 0),
-    }
-}
-
-// What was asked, what the run gives, what the whole buffer holds after it, and the debt.
+// What was asked, the refusal and the zeros that the run gives, of which the one that there is not is 0, what the whole buffer holds after
+// it, and the debt.
 fn row<P: Print>(rows: &mut Rows<'_, P>, b: Board, count: usize, room: usize) -> io::Result<()> {
     let mut buffer = [99u16; 5];
     let lent = room.min(5);
-    let after = steps::run_list(b, list_of(&STEPS), count, &mut buffer[..lent]);
+    let after = steps::run_list(b, STEPS.map(StepRecord::from), count, &mut buffer[..lent]);
     let sound = u8::from(board::is_sound(b));
-    let (refusal, zeros) = ran(after.ran);
+    let refusal = number_of(after.ran);
+    let zeros = after.ran.unwrap_or(0);
     rows.begin()?;
     print!(rows.to; "\t{sound}\t{count}\t{lent}\t{refusal}\t{zeros}")?;
     for answer in buffer {

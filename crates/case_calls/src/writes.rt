@@ -1,7 +1,7 @@
 // The writer of a step: kinds 0 to 8, then the largest number.
 use crate::edges;
 use crate::rows::Rows;
-use rules::StepRecord;
+use rules::{NO_STEP, StepRecord};
 use std::io;
 
 const KINDS: [u16; 10] = [0, 1, 2, 3, 4, 5, 6, 7, 8, 65535];
@@ -14,12 +14,7 @@ fn records(kind: u16) -> [StepRecord; 2] {
         other: 200,
         slot: 65535,
     };
-    let short = StepRecord {
-        kind,
-        unit: 0,
-        other: 0,
-        slot: 0,
-    };
+    let short = StepRecord { kind, ..NO_STEP };
     [long, short]
 }
 
