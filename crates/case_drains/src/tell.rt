@@ -1,30 +1,15 @@
 // What the calls give of a board.
-use drains::{Longest, longest_length, short_drain};
+use drains::{longest_length, short_drain};
 use listing::ending;
-use placing::Wrote;
+use refusals::{Refusal, number_of};
 use rules::{Board, StepRecord};
 use script::write_step;
 use std::io;
 
-fn told(to: &impl Print, word: &str, r: Longest) -> io::Result<()> {
+fn told(to: &impl Print, word: &str, r: Result<usize, Refusal>) -> io::Result<()> {
     match r {
-        Longest::Steps(n) => println!(to; "{word}\t{n}"),
-        Longest::Refused(k) => println!(to; "refused\t{k}"),
-    }
-}
-
-// The number that refuses; 0 where none does.
-fn refusal(r: Longest) -> u16 {
-    match r {
-        Longest::Steps(_) => 0,
-        Longest::Refused(k) => k,
-    }
-}
-
-fn count_of(r: Longest) -> usize {
-    match r {
-        Longest::Steps(n) => n,
-        Longest::Refused(_) => 0,
+        Ok(n) => println!(to; "{word}\t{n}"),
+        Err(refusal) => println!(to; "refused\t{}", refusal.number()),
     }
 }
 
@@ -32,8 +17,8 @@ fn count_of(r: Longest) -> usize {
 fn step_line(to: &impl Print, r: StepRecord) -> io::Result<()> {
     let mut line = [0u8; 32];
     match write_step(r, &mut line, 0) {
-        Wrote::Count(n) => to.write_all(&line[..n.min(32)]),
-        Wrote::Refused(k) => println!(to; "refused\t{k}"),
+        Ok(n) => to.write_all(&line[..n.min(32)]),
+        Err(refusal) => println!(to; "refused\t{}", refusal.number()),
     }
 }
 
@@ -41,10 +26,10 @@ fn step_line(to: &impl Print, r: StepRecord) -> io::Result<()> {
 fn drain(to: &impl Print, b: Board) -> io::Result<()> {
     told(to, "length", longest_length(b))?;
     let damaged = Board { delay: 256, ..b };
-    println!(to; "damaged\t{}", refusal(longest_length(damaged)))?;
+    println!(to; "damaged\t{}", number_of(longest_length(damaged)))?;
     let short = short_drain(b);
     told(to, "list", short.longest)?;
-    for step in short.steps.iter().take(count_of(short.longest)) {
+    for step in short.steps.iter().take(short.longest.unwrap_or(0)) {
         step_line(to, *step)?;
     }
     Ok(())
@@ -53,10 +38,10 @@ fn drain(to: &impl Print, b: Board) -> io::Result<()> {
 // A script whose first line is refused leaves no board.
 fn left(to: &impl Print, script: &[u8]) -> io::Result<()> {
     let end = ending(script);
-    if end.answer != 0 {
-        return println!(to; "refused\t{}", end.answer);
+    match end.answer {
+        Ok(()) => drain(to, end.board),
+        Err(refusal) => println!(to; "refused\t{}", refusal.number()),
     }
-    drain(to, end.board)
 }
 
 // The title has the byte that ends its line.

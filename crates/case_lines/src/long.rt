@@ -1,20 +1,25 @@
 // Lines about as long as a line may be: 255 bytes, and one more.
 use crate::tell::{first, later, three_parents};
-use placing::put_bytes;
 use std::io;
 
-// A later line that begins as given and is zeros behind that.
+// A line that begins as given, and is one byte over and over behind that.
+fn begun(begin: &[u8], filler: u8) -> [u8; 256] {
+    let mut line = [filler; 256];
+    for (byte, given) in line.iter_mut().zip(begin) {
+        *byte = *given;
+    }
+    line
+}
+
 fn zeros(to: &impl Print, begin: &[u8]) -> io::Result<()> {
-    let mut line = [b'0'; 256];
-    put_bytes(begin, &mut line, 0);
+    let line = begun(begin, b'0');
     later(to, &line[0..255])?;
     later(to, &line)
 }
 
 // The same as a first line, and read for its parents.
 fn first_zeros(to: &impl Print, begin: &[u8]) -> io::Result<()> {
-    let mut line = [b'0'; 256];
-    put_bytes(begin, &mut line, 0);
+    let line = begun(begin, b'0');
     first(to, &line[0..255])?;
     three_parents(to, &line[0..255])?;
     first(to, &line)?;
@@ -23,13 +28,12 @@ fn first_zeros(to: &impl Print, begin: &[u8]) -> io::Result<()> {
 
 // A board line each number of which is 1.
 fn ones(to: &impl Print) -> io::Result<()> {
-    let mut line = [b'1'; 256];
-    for (i, byte) in line.iter_mut().enumerate() {
+    let mut line = begun(b"board", b'1');
+    for (i, byte) in line.iter_mut().enumerate().skip(5) {
         if i % 2 == 1 {
             *byte = b'\t';
         }
     }
-    put_bytes(b"board", &mut line, 0);
     first(to, &line[0..255])?;
     first(to, &line)
 }

@@ -1,6 +1,7 @@
 // What the readers of a line give.
+use refusals::Refusal;
 use rules::StepRecord;
-use script::Reading;
+use script::Line;
 use std::io;
 
 fn parents(to: &impl Print, list: &[u16]) -> io::Result<()> {
@@ -15,14 +16,14 @@ fn asked(to: &impl Print, r: StepRecord) -> io::Result<()> {
 }
 
 // M, d and how many parents there are, then the parents; or kind, unit, other and slot; or the refusal.
-fn told(to: &impl Print, r: Reading, list: &[u16]) -> io::Result<()> {
+fn told(to: &impl Print, r: Result<Line, Refusal>, list: &[u16]) -> io::Result<()> {
     match r {
-        Reading::Opens(m, d, count) => {
+        Ok(Line::Opens(m, d, count)) => {
             print!(to; "opens\t{m}\t{d}\t{count}")?;
             parents(to, &list[..usize::from(count).min(list.len())])
         }
-        Reading::Asks(s) => asked(to, s),
-        Reading::Refused(k) => println!(to; "refused\t{k}"),
+        Ok(Line::Asks(step)) => asked(to, step),
+        Err(refusal) => println!(to; "refused\t{}", refusal.number()),
     }
 }
 

@@ -1,5 +1,4 @@
 // Steps that are written: the answer, and the buffer of 16 dots after the call.
-use placing::Wrote;
 use rules::StepRecord;
 use std::io;
 
@@ -15,8 +14,8 @@ fn shown(byte: u8) -> u8 {
 fn write(to: &impl Print, r: StepRecord, at: usize) -> io::Result<()> {
     let mut buffer = [b'.'; 16];
     match script::write_step(r, &mut buffer, at) {
-        Wrote::Count(n) => print!(to; "wrote\t{n}\t")?,
-        Wrote::Refused(k) => print!(to; "refused\t{k}\t")?,
+        Ok(n) => print!(to; "wrote\t{n}\t")?,
+        Err(refusal) => print!(to; "refused\t{}\t", refusal.number())?,
     }
     to.write_all(&buffer.map(shown))?;
     println!(to)

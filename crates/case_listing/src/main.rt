@@ -2,7 +2,6 @@
 // refusals that can fail together.
 #![tactic(auto)]
 
-use placing::Wrote;
 use std::io;
 
 fn title(to: &impl Print, title: &str) -> io::Result<()> {
@@ -14,8 +13,8 @@ fn show(to: &impl Print, name: &str, script: &[u8]) -> io::Result<()> {
     title(to, name)?;
     let mut out = [0u8; 1024];
     match listing::list_all(script, &mut out) {
-        Wrote::Count(n) => to.write_all(&out[..n.min(1024)]),
-        Wrote::Refused(_) => println!(to; "no room"),
+        Ok(n) => to.write_all(&out[..n.min(1024)]),
+        Err(_) => println!(to; "no room"),
     }
 }
 
@@ -166,8 +165,8 @@ fn in_room(to: &impl Print, room: usize) -> io::Result<()> {
     println!(to; "-- a buffer of {room} bytes")?;
     let mut out = [b'.'; 76];
     match listing::list_all(b"board\t1\t0\nstart\t0\n", &mut out[..room.min(76)]) {
-        Wrote::Count(_) => println!(to; "written")?,
-        Wrote::Refused(_) => println!(to; "no room")?,
+        Ok(_) => println!(to; "written")?,
+        Err(_) => println!(to; "no room")?,
     }
     to.write_all(&out)?;
     println!(to)
