@@ -69,11 +69,11 @@ fn with_mark(mut b: Board, i: u64, mark: bool) -> Board {
     b
 }
 
-fn round_of(k: u64) -> Round {
+fn round_of(k: u64) -> Option<Round> {
     match k {
-        0 => Round::None,
-        1 => Round::One,
-        _ => Round::Two,
+        0 => None,
+        1 => Some(Round::One),
+        _ => Some(Round::Two),
     }
 }
 
