@@ -69,11 +69,12 @@ fn with_mark(mut b: Board, i: u64, mark: bool) -> Board {
     b
 }
 
-fn round_of(k: u64) -> Round {
-    match k {
-        0 => Round::None,
-        1 => Round::One,
-        _ => Round::Two,
+// The open round by its number; 0 for none.
+fn round_of(number: u64) -> Option<Round> {
+    match number {
+        0 => None,
+        1 => Some(Round::One),
+        _ => Some(Round::Two),
     }
 }
 

@@ -4,13 +4,15 @@ use crate::changes;
 use crate::edits::{after, opened, small, step_of};
 use crate::words::{Word, kind_word};
 use casetext::{Step, Told};
-use rules::{Board, Depth, Finding, Outcome};
+use refusals::{Refusal, number_of};
+use rules::{Board, Finding, Outcome};
 use std::io;
 
 // Answer, debt and verdict, then what is not as on the board a.
 fn outcome(to: &impl Print, a: Board, out: Outcome, kept: &str) -> io::Result<Board> {
     let verdict = Told(board::finished(out.board));
-    print!(to; "\t{}\t{}\t{verdict}", out.answer, out.board.debt)?;
+    let answer = number_of(out.answer);
+    print!(to; "\t{answer}\t{}\t{verdict}", out.board.debt)?;
     changes::tell(to, a, out.board, kept)?;
     Ok(out.board)
 }
@@ -43,10 +45,10 @@ fn opening(to: &impl Print, case: &Case<'_>) -> io::Result<Board> {
     outcome(to, board::blank(), opened(case), "blank")
 }
 
-fn tell_depth(to: &impl Print, d: Depth) -> io::Result<()> {
-    match d {
-        Depth::Deep(x) => print!(to; "\tdeep\t{x}"),
-        Depth::Refused(k) => print!(to; "\t{k}"),
+fn tell_depth(to: &impl Print, depth: Result<u16, Refusal>) -> io::Result<()> {
+    match depth {
+        Ok(deep) => print!(to; "\tdeep\t{deep}"),
+        Err(refusal) => print!(to; "\t{}", refusal.number()),
     }
 }
 
@@ -62,22 +64,23 @@ fn begin(to: &impl Print, b: Board) -> io::Result<Board> {
     outcome(to, b, rounds::begin(b), "kept")
 }
 
-// The finding's word, and its number.
-fn found(x: Finding) -> (&'static str, u16) {
-    match x {
-        Finding::NoVerdict => ("no verdict yet", 0),
-        Finding::AllQuiet => ("quiet", 0),
-        Finding::Unsettled => ("unsettled", 0),
-        Finding::Refused(k) => ("refused", k),
+fn found(finding: Result<Finding, Refusal>) -> &'static str {
+    match finding {
+        Ok(Finding::NoVerdict) => "no verdict yet",
+        Ok(Finding::AllQuiet) => "quiet",
+        Ok(Finding::Unsettled) => "unsettled",
+        Err(_) => "refused",
     }
 }
 
 fn visit(to: &impl Print, b: Board, unit: u64) -> io::Result<Board> {
     let visited = rounds::visit(b, small(unit));
-    let (word, answer) = found(visited.finding);
-    print!(to; "visit\t{unit}\t{word}")?;
-    let board = visited.board;
-    outcome(to, b, Outcome { board, answer }, "kept")
+    print!(to; "visit\t{unit}\t{}", found(visited.finding))?;
+    let out = Outcome {
+        board: visited.board,
+        answer: visited.finding.map(|_| ()),
+    };
+    outcome(to, b, out, "kept")
 }
 
 // Whether the edited board is sound, and what a step, depth and finished answer. No sound board takes the step, since unit 0 never waits:
@@ -90,7 +93,7 @@ fn edit(to: &impl Print, b: Board, case: &Case<'_>) -> io::Result<Board> {
     } else {
         "unsound"
     };
-    let answer = steps::step(edited, Step::Tick(0).into()).answer;
+    let answer = number_of(steps::step(edited, Step::Tick(0).into()).answer);
     print!(to; "\t{sound}\t{answer}")?;
     tell_depth(to, board::depth_of(edited, 0))?;
     let verdict = Told(board::finished(edited));
