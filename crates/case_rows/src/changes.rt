@@ -51,32 +51,30 @@ fn tell_entry(to: &impl Print, i: usize, e: [u64; 4]) -> io::Result<()> {
     }
 }
 
-fn entries_same(to: &impl Print, a: Board, b: Board) -> io::Result<bool> {
-    let mut all = true;
+// Entries by number, (a): what entry i is stands in `entry_of`, by which the contract of `entry` tells it.
+fn tell_entries(to: &impl Print, a: Board, b: Board) -> io::Result<()> {
     for i in 0..513 {
         let e = entry(b, i);
         if entry(a, i) != e {
             tell_entry(to, i, e)?;
-            all = false;
         }
     }
-    Ok(all)
+    Ok(())
 }
 
-fn sizes_same(to: &impl Print, a: Board, b: Board) -> io::Result<bool> {
-    let same = a.n == b.n && a.m == b.m && a.delay == b.delay;
-    if !same {
-        print!(to; "\n\tsizes\t{}\t{}\t{}", b.n, b.m, b.delay)?;
+fn tell_sizes(to: &impl Print, a: Board, b: Board) -> io::Result<()> {
+    if (a.n, a.m, a.delay) == (b.n, b.m, b.delay) {
+        return Ok(());
     }
-    Ok(same)
+    print!(to; "\n\tsizes\t{}\t{}\t{}", b.n, b.m, b.delay)
 }
 
 // Writes how b differs from a, or the word `kept` where it does not. The debt is not written: it stands in the case's line.
 pub(crate) fn tell(to: &impl Print, a: Board, b: Board, kept: &str) -> io::Result<()> {
-    let sizes = sizes_same(to, a, b)?;
-    let entries = entries_same(to, a, b)?;
-    if sizes && entries && a.debt == b.debt {
-        print!(to; "\t{kept}")?;
+    if a == b {
+        return println!(to; "\t{kept}");
     }
+    tell_sizes(to, a, b)?;
+    tell_entries(to, a, b)?;
     println!(to)
 }
