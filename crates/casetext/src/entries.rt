@@ -1,4 +1,4 @@
-// A board as a row of entries, each of four numbers: what a program goes over that tells how two boards differ.
+// A board as a row of entries, each of four numbers, by which a board can be written and compared without its types.
 ghost use Rattle.std.specs.Prelude.{◌≡◌};
 ghost use Rattle.casetext.specs.Entries.{round_place, unit_cells, slot_cells, marks_entry, rounds_entry, entry_of};
 
