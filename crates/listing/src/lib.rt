@@ -18,6 +18,9 @@ use refusals::Refusal;
 use rules::Board;
 pub use whole::{list_all, listing_length};
 
+// A longer script is refused.
+pub(crate) const MOST_BYTES: usize = 65535;
+
 // The script line that is next: its place in the script, its number, and the board before it.
 #[derive(Clone, Copy)]
 pub struct NextLine {

@@ -48,7 +48,15 @@ pub(crate) fn write_rows(
     let mut to = at;
     for ((refusal, answer), debt) in refusals.iter().zip(answers).zip(debts) {
         let answer = u64::from(answer_of(*refusal, *answer));
-        to += write_line(u64::from(number), answer, *debt, Ok(state_of(*debt)), out, to).unwrap_or(0);
+        to += write_line(
+            u64::from(number),
+            answer,
+            *debt,
+            Ok(state_of(*debt)),
+            out,
+            to,
+        )
+        .unwrap_or(0);
         number = number.saturating_add(1);
     }
     Rows { line: number, to }

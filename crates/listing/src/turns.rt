@@ -33,7 +33,14 @@ fn turn(p: Progress, script: &[u8], out: &mut [u8]) -> Progress
 {
     let g = gather(script, p.next.at, batch_size(out.len() - p.to));
     let done = run_batch(p.next.board, g.steps, g.count);
-    let w = write_rows(p.next.line, &g.refusals[..g.count], &done.answers, &done.debts, out, p.to);
+    let w = write_rows(
+        p.next.line,
+        &g.refusals[..g.count],
+        &done.answers,
+        &done.debts,
+        out,
+        p.to,
+    );
     if w.to == p.to {
         return p;
     }
