@@ -50,9 +50,6 @@ pub line_most : (n k debt : ℕ) (v : Result Verdict Refusal) → n ≤ 42949672
 line_most n k debt v p q r =
     omega (arith, line_length n k debt (state_word v), count_bound n 10 (omega arith) (omega arith) (omega arith), count_bound k 2 (omega arith) (omega arith) (omega arith), count_bound debt 13 (omega arith) (omega arith) (omega arith), word_most v)
 
-pub line_some : (n k debt : ℕ) (v : Result Verdict Refusal) → 1 ≤ length (line_text n k debt v)
-line_some n k debt v = omega (arith, line_length n k debt (state_word v))
-
 one_digit : digit_count 0 ≤ 1
 one_digit = count_bound 0 1 (omega arith) (omega arith) (omega arith)
 

@@ -23,6 +23,7 @@ fn further_lines(script: &[u8]) -> usize
 }
 
 // The listing is no longer.
+#[tactic(auto, using(crate::proofs::BoundLaws::further_few), unfolding(crate::specs::Bounds::bound_by_lines))]
 pub(crate) fn bound(script: &[u8]) -> usize
     ensures { result ≡ bound_by_lines script.now }
 {

@@ -29,6 +29,7 @@ const NO_STEP: StepRecord = StepRecord {
 };
 
 // At most `most` lines from a place on.
+#[tactic(auto, using(numbers::proofs::LineLaws::line_inside, numbers::proofs::LineLaws::line_starts))]
 pub(crate) fn gather(script: &[u8], from: usize, most: usize) -> Gathered
     requires { most ≤ batch_most }
     ensures { Gathers result (lines_at most from script.now) (place_after most from script.now) }

@@ -9,15 +9,6 @@ use Rattle.script.specs.Lines.{reading, step_by}
 use Rattle.listing.proofs.gathering.GatherLaws.{turn_goes, turn_past, turn_full}
 use Rattle.listing.proofs.gathering.gather.Goals as goal
 
-pub slice_bounds-read_step-count : goal.slice_bounds-read_step-count
-slice_bounds-read_step-count c = line_starts _ _ c.line_at-here.ensures (omega arith)
-
-pub slice_bounds-read_step-start : goal.slice_bounds-read_step-start
-slice_bounds-read_step-start c = line_starts _ _ c.line_at-here.ensures (omega arith)
-
-pub slice_bounds-read_step-end : goal.slice_bounds-read_step-end
-slice_bounds-read_step-end c = line_inside _ _ c.line_at-here.ensures
-
 pub loop-count-preserved : goal.loop-count-preserved
 loop-count-preserved c =
     turn_goes c.loop-count.invariant c.loop-count-test.true c.if-at-script.true (c.read_step-step.ensures ∙ ap (λ (l : List ℕ). step_by (reading false l)) (line_part _ _ c.line_at-here.ensures (omega arith))) c.unwrap_or.ensures c.err.ensures.value (line_next _ _ c.line_at-here.ensures)
