@@ -19,6 +19,7 @@ struct Reached {
 }
 
 // One batch of lines.
+#[tactic(auto, using(crate::proofs::endings::EndingLaws::batch_reached_lem))]
 fn take_batch(p: Reached, script: &[u8]) -> Reached
     requires { sound p.board ≡ true }
     ensures { result ≡ record { at = place_after batch_most p.at script.now; board = board_after p.board (lines_at batch_most p.at script.now) } }
@@ -30,7 +31,7 @@ fn take_batch(p: Reached, script: &[u8]) -> Reached
     }
 }
 
-// Batch by batch up to the script's end.
+// Batch by batch up to the script's end: a cursor, each batch begins where the one before it ended.
 fn take_lines(mut p: Reached, script: &[u8]) -> Board
     requires { p.at < length script.now → sound p.board ≡ true }
     ensures { result ≡ board_after p.board (lines_of (drop p.at script.now)) }

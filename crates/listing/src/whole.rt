@@ -8,8 +8,8 @@ use crate::cursors::{beginning, is_ended};
 use crate::parts::list_part;
 use refusals::Refusal;
 
-// How many bytes the listing of a script has. It is listed in parts, which are counted and thrown away: large parts, since towards the end of
-// each the batches get small.
+// How many bytes the listing of a script has. It is listed in parts from cursor to cursor, which are counted and thrown away: large parts,
+// since towards the end of each the batches get small.
 pub fn listing_length(script: &[u8]) -> usize
     ensures { result ≡ length (listing script.now) }
 {
