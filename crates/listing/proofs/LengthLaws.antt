@@ -1,12 +1,12 @@
 -- How long lines are, and what holds of every cursor that the beginning leads to: its board is sound, so no piece is longer than the longest.
-use mathlib.Core.Path.{◌≡◌, refl, sym, ap, subst, ◌∙◌}
-use mathlib.Core.Bool.{true, false}
+use mathlib.Core.Path.{◌≡◌, sym, ap, subst}
+use mathlib.Core.Bool.{false}
 use mathlib.Core.List.{List}
 use Prim.Native.Nat.{ℕ, zero, suc, ◌≤◌, ◌<◌}
 use native.Mathlib.Omega.{arith}
 use lib.ListN.{length, drop, length-append}
 use lib.Dec.{leb}
-use borrow.Author.Tests.{leb-false, ne_eqb}
+use borrow.Author.Tests.{leb-false}
 use Rattle.std.specs.Prelude.{Result, Ok, Err}
 use Rattle.refusals.specs.Numbers.{number, number_of}
 use Rattle.refusals.specs.declared.Refusal.{Refusal}
@@ -18,7 +18,6 @@ use Rattle.rules.specs.declared.Verdict.{Verdict}
 use Rattle.rules.specs.declared.Verdict.TheVariants.{Working, Finished}
 use Rattle.rules.specs.Sound.{Sound}
 use Rattle.rules.specs.Finished.{verdict}
-use Rattle.rules.proofs.FactLaws.{true_not_false}
 use Rattle.refusals.proofs.NumberLaws.{two_digits, answer_short}
 use Rattle.rules.proofs.EventSound.{step_keeps_sound}
 use Rattle.fields.specs.Fields.{up_to}

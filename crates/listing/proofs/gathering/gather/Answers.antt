@@ -4,7 +4,7 @@ use mathlib.Core.Bool.{false}
 use mathlib.Core.List.{List}
 use Prim.Native.Nat.{ℕ}
 use native.Mathlib.Omega.{arith}
-use Rattle.numbers.proofs.LineLaws.{line_inside, line_starts, line_part, line_next}
+use Rattle.numbers.proofs.LineLaws.{line_part, line_next}
 use Rattle.script.specs.Lines.{reading, step_by}
 use Rattle.listing.proofs.gathering.GatherLaws.{turn_goes, turn_past, turn_full}
 use Rattle.listing.proofs.gathering.gather.Goals as goal
