@@ -6,26 +6,19 @@ mod lines;
 ghost use Rattle.std.specs.Prelude.{◌≡◌, length};
 ghost use Rattle.placing.specs.Placing.{wrote, written};
 ghost use Rattle.listing.specs.Scripts.{listing};
-ghost use Rattle.ayokwelifu.specs.Answers.{wrote_number, cell_after};
+ghost use Rattle.refusals.specs.Numbers.{number_of};
+ghost use Rattle.ayokwelifu.specs.Answers.{cell_after};
 
 use listing::{list_all, listing_length};
-use placing::Wrote;
+use refusals::{Refusal, number_of};
 
-pub(crate) fn number_of(w: Wrote) -> u16
-    ensures { result ≡ wrote_number w }
+// What a cell holds after a writer: how many bytes it wrote, or what the cell held.
+pub(crate) fn cell_after(old: u64, wrote: Result<usize, Refusal>) -> u64
+    ensures { result ≡ cell_after old wrote }
 {
-    match w {
-        Wrote::Count(_) => 0,
-        Wrote::Refused(k) => k,
-    }
-}
-
-pub(crate) fn cell_after(old: u64, w: Wrote) -> u64
-    ensures { result ≡ cell_after old w }
-{
-    match w {
-        Wrote::Count(n) => n as u64,
-        Wrote::Refused(_) => old,
+    match wrote {
+        Ok(n) => n as u64,
+        Err(_) => old,
     }
 }
 
@@ -41,7 +34,7 @@ pub extern "C" fn ayokwelifu_listing_length(script: &[u8], count: &mut u64) -> u
 // The script's listing goes to the start of the buffer and its length to the cell, or 27 and both as they were.
 #[unsafe(no_mangle)]
 pub extern "C" fn ayokwelifu_list(script: &[u8], out: &mut [u8], count: &mut u64) -> u16
-    ensures number { result ≡ wrote_number (wrote (listing script.now) 0 out.old) }
+    ensures number { result ≡ number_of (wrote (listing script.now) 0 out.old) }
     ensures cell { count.new ≡ cell_after count.old (wrote (listing script.now) 0 out.old) }
     ensures buffer { out.new ≡ written (listing script.now) 0 out.old }
 {

@@ -1,13 +1,15 @@
 // A step as a line of a script, written and read back: what a unit on board logs.
 ghost use Rattle.std.specs.Prelude.{◌≡◌, false};
 ghost use Rattle.rules.specs.declared.StepRecord.{StepRecord};
+ghost use Rattle.refusals.specs.Numbers.{number_of};
 ghost use Rattle.script.specs.Lines.{reading, refusal_by};
 ghost use Rattle.script.specs.Writing.{step_wrote, step_written};
-ghost use Rattle.ayokwelifu.specs.Answers.{wrote_number, cell_after, step_after};
+ghost use Rattle.ayokwelifu.specs.Answers.{cell_after, step_after};
 
-use crate::{cell_after, number_of};
+use crate::cell_after;
+use refusals::number_of;
 use rules::StepRecord;
-use script::{Reading, read_line, write_step};
+use script::{read_step, write_step};
 
 // The line, with its byte 10, goes to the buffer from the place on and its length to the cell, or 16 or 27 and both as they were.
 #[unsafe(no_mangle)]
@@ -20,7 +22,7 @@ pub extern "C" fn ayokwelifu_write_step(
     at: usize,
     count: &mut u64,
 ) -> u16
-    ensures number { result ≡ wrote_number (step_wrote (record { kind = kind; unit = unit; other = other; slot = slot }) at out.old) }
+    ensures number { result ≡ number_of (step_wrote (record { kind = kind; unit = unit; other = other; slot = slot }) at out.old) }
     ensures cell { count.new ≡ cell_after count.old (step_wrote (record { kind = kind; unit = unit; other = other; slot = slot }) at out.old) }
     ensures buffer { out.new ≡ step_written (record { kind = kind; unit = unit; other = other; slot = slot }) at out.old }
 {
@@ -35,16 +37,6 @@ pub extern "C" fn ayokwelifu_write_step(
     number_of(w)
 }
 
-fn step_after(old: StepRecord, x: Reading) -> StepRecord
-    ensures { result ≡ step_after old x }
-{
-    match x {
-        Reading::Opens(_, _, _) => old,
-        Reading::Asks(r) => r,
-        Reading::Refused(_) => old,
-    }
-}
-
 // The step that a line without its byte 10 says goes to the cells, with 0 in the fields that its kind has no letter for, or the number that refuses the line and the cells as they were.
 #[unsafe(no_mangle)]
 pub extern "C" fn ayokwelifu_read_step(
@@ -57,17 +49,12 @@ pub extern "C" fn ayokwelifu_read_step(
     ensures number { result ≡ refusal_by (reading false line.now) }
     ensures cells { ◌≡◌ {A = StepRecord} (record { kind = kind.new; unit = unit.new; other = other.new; slot = slot.new }) (step_after (record { kind = kind.old; unit = unit.old; other = other.old; slot = slot.old }) (reading false line.now)) }
 {
-    let x = read_line(line, false);
-    let old = StepRecord {
-        kind: *kind,
-        unit: *unit,
-        other: *other,
-        slot: *slot,
-    };
-    let r = step_after(old, x);
-    *kind = r.kind;
-    *unit = r.unit;
-    *other = r.other;
-    *slot = r.slot;
-    x.refusal()
+    let read = read_step(line);
+    if let Ok(step) = read {
+        *kind = step.kind;
+        *unit = step.unit;
+        *other = step.other;
+        *slot = step.slot;
+    }
+    number_of(read)
 }

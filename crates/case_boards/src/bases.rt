@@ -1,49 +1,37 @@
-// The boards that are damaged: what steps lead to from one opening. Each row has a step's kind, unit, other and slot.
-use rules::{Board, StepRecord};
+// The boards that are damaged: what steps lead to from one opening.
+use casetext::Step;
+use rules::Board;
 
-const WORKING: [[u16; 4]; 8] = [
-    [1, 0, 0, 0], // start 0
-    [2, 0, 1, 0], // send 0 1 0
-    [4, 0, 0, 0], // deliver 0
-    [2, 0, 2, 1], // send 0 2 1
-    [4, 0, 0, 1], // deliver 1
-    [2, 1, 3, 0], // send 1 3 0
-    [5, 2, 0, 0], // rest 2
-    [2, 0, 4, 2], // send 0 4 2
+const WORKING: [Step; 8] = [
+    Step::Start(0),
+    Step::Send(0, 1, 0),
+    Step::Deliver(0),
+    Step::Send(0, 2, 1),
+    Step::Deliver(1),
+    Step::Send(1, 3, 0),
+    Step::Rest(2),
+    Step::Send(0, 4, 2),
 ];
 
-const WORK_FOR_2: [[u16; 4]; 3] = [
-    [1, 1, 0, 0], // start 1
-    [2, 1, 2, 0], // send 1 2 0
-    [4, 0, 0, 0], // deliver 0
-];
+const WORK_FOR_2: [Step; 3] = [Step::Start(1), Step::Send(1, 2, 0), Step::Deliver(0)];
 
-const OUT_OF_2: [[u16; 4]; 2] = [
-    [2, 2, 3, 0], // send 2 3 0
-    [4, 0, 0, 0], // deliver 0
-];
+const OUT_OF_2: [Step; 2] = [Step::Send(2, 3, 0), Step::Deliver(0)];
 
-const WORK_FOR_4: [[u16; 4]; 2] = [
-    [2, 1, 4, 1], // send 1 4 1
-    [4, 0, 0, 1], // deliver 1
-];
+const WORK_FOR_4: [Step; 2] = [Step::Send(1, 4, 1), Step::Deliver(1)];
 
-const OUT_OF_4: [[u16; 4]; 2] = [
-    [2, 4, 3, 1], // send 4 3 1
-    [4, 0, 0, 1], // deliver 1
-];
+const OUT_OF_4: [Step; 2] = [Step::Send(4, 3, 1), Step::Deliver(1)];
 
-const SUSPENDED: [[u16; 4]; 10] = [
-    [3, 2, 0, 0], // request 2 0
-    [3, 4, 0, 1], // request 4 1
-    [4, 0, 0, 1], // deliver 1
-    [5, 3, 0, 0], // rest 3
-    [6, 3, 0, 0], // tick 3
-    [6, 3, 0, 0], // tick 3
-    [7, 3, 0, 2], // release 3 2
-    [2, 1, 3, 3], // send 1 3 3
-    [4, 0, 0, 3], // deliver 3
-    [5, 3, 0, 0], // rest 3
+const SUSPENDED: [Step; 10] = [
+    Step::Request(2, 0),
+    Step::Request(4, 1),
+    Step::Deliver(1),
+    Step::Rest(3),
+    Step::Tick(3),
+    Step::Tick(3),
+    Step::Release(3, 2),
+    Step::Send(1, 3, 3),
+    Step::Deliver(3),
+    Step::Rest(3),
 ];
 
 // Sends that leave a unit of weight 16,384 with weight 1: 15 of 1,024, then ten halvings.
@@ -53,28 +41,13 @@ fn opened() -> Board {
     board::open(4, 2, &[0, 0, 1, 2]).board
 }
 
-fn step(b: Board, row: [u16; 4]) -> Board {
-    let r = StepRecord {
-        kind: row[0],
-        unit: row[1],
-        other: row[2],
-        slot: row[3],
-    };
-    steps::step(b, r).board
+fn after(b: Board, list: &[Step]) -> Board {
+    list.iter()
+        .fold(b, |b, step| steps::step(b, (*step).into()).board)
 }
 
-fn after(mut b: Board, rows: &[[u16; 4]]) -> Board {
-    for i in 0..rows.len() {
-        b = step(b, rows[i]);
-    }
-    b
-}
-
-fn repeated(mut b: Board, rows: &[[u16; 4]], times: usize) -> Board {
-    for k in 0..times {
-        b = after(b, rows);
-    }
-    b
+fn repeated(b: Board, list: &[Step]) -> Board {
+    (0..SENDS).fold(b, |b, _| after(b, list))
 }
 
 // Units at work and one that waits, with work under way.
@@ -84,7 +57,7 @@ pub(crate) fn working() -> Board {
 
 // A request of unit 2, a supply to unit 4 and a return under way; unit 3 waits.
 pub(crate) fn suspended() -> Board {
-    let two = repeated(after(opened(), &WORK_FOR_2), &OUT_OF_2, SENDS);
-    let four = repeated(after(two, &WORK_FOR_4), &OUT_OF_4, SENDS);
+    let two = repeated(after(opened(), &WORK_FOR_2), &OUT_OF_2);
+    let four = repeated(after(two, &WORK_FOR_4), &OUT_OF_4);
     after(four, &SUSPENDED)
 }

@@ -1,139 +1,180 @@
-// The damages by number: for each field the values that it is set to, then the next field.
-ghost use Rattle.std.specs.Prelude.{◌≤◌};
-
-use crate::{GRANT, LARGEST, MOST, edits};
+// The damages of a board: each field is set to a few values, and the board that comes of it told under its number.
+use crate::rows::damaged;
+use crate::weights::settled;
+use crate::{GRANT, MOST};
 use rules::{Board, Kind, Slot, State, UnitRecord};
+use std::io;
 
-// The first entries by number, then the last.
-fn entry(k: usize, first: usize, last: usize) -> usize
-    requires { first ≤ last }
-    ensures { result ≤ last }
-{
-    if k < first {
-        return k;
-    }
-    last
+// The board that is damaged, and the number of the next row. A balanced table settles the sums of each board before it is told.
+#[derive(Drop)]
+pub(crate) struct Damages<'a, P> {
+    to: &'a P,
+    base: Board,
+    is_balanced: bool,
+    next: usize,
 }
 
-fn near(x: u16, k: usize) -> u16 {
-    match k {
-        0 => 0,
-        1 => 1,
-        2 => x.wrapping_sub(1),
-        3 => x.wrapping_add(1),
-        _ => 65535,
-    }
-}
-
-// n, M and d, five values each.
-fn sizes(b: Board, k: usize) -> Board {
-    match k / 5 {
-        0 => edits::with_n(b, near(b.n, k % 5)),
-        1 => edits::with_m(b, near(b.m, k % 5)),
-        _ => edits::with_delay(b, near(b.delay, k % 5)),
-    }
+fn near(x: u16) -> [u16; 5] {
+    [0, 1, x.wrapping_sub(1), x.wrapping_add(1), 65535]
 }
 
 // A number among the units, or far above them; own is one that the field knows.
-fn unit_number(own: u16, k: usize) -> u16 {
-    match k {
-        0 => 0,
-        1 => 1,
-        2 => own,
-        _ => 65535,
-    }
+fn unit_numbers(own: u16) -> [u16; 4] {
+    [0, 1, own, 65535]
 }
 
-fn parents(b: Board, k: usize) -> Board {
-    let i = entry(k / 4, 63, 63);
-    edits::with_parent(b, i, unit_number(i as u16, k % 4))
+fn damaged_units(x: UnitRecord) -> [UnitRecord; 8] {
+    [
+        UnitRecord {
+            weight: x.weight.wrapping_add(1),
+            ..x
+        },
+        UnitRecord { weight: 0, ..x },
+        UnitRecord { countdown: 1, ..x },
+        UnitRecord { countdown: 3, ..x },
+        UnitRecord {
+            state: State::Idle,
+            ..x
+        },
+        UnitRecord {
+            state: State::Active,
+            ..x
+        },
+        UnitRecord {
+            state: State::Waiting,
+            ..x
+        },
+        UnitRecord {
+            suspended: !x.suspended,
+            ..x
+        },
+    ]
 }
 
-fn unit(x: UnitRecord, k: usize) -> UnitRecord {
-    match k {
-        0 => edits::weighing(x, x.weight.wrapping_add(1)),
-        1 => edits::weighing(x, 0),
-        2 => edits::counting(x, 1),
-        3 => edits::counting(x, 3),
-        4 => edits::in_state(x, State::Idle),
-        5 => edits::in_state(x, State::Active),
-        6 => edits::in_state(x, State::Waiting),
-        _ => edits::flipped(x),
+const KINDS: [Kind; 5] = [
+    Kind::Empty,
+    Kind::Work,
+    Kind::Return,
+    Kind::Request,
+    Kind::Supply,
+];
+
+// A list with one entry set.
+fn with<T: Copy, const N: usize>(mut list: [T; N], i: usize, x: T) -> [T; N] {
+    if let Some(entry) = list.get_mut(i) {
+        *entry = x;
     }
+    list
 }
 
-// Units 0 to 6 and the last, eight damages each.
-fn units(b: Board, k: usize) -> Board {
-    let i = entry(k / 8, 7, 63);
-    let x = b.units[i];
-    edits::with_unit(b, i, unit(x, k % 8))
-}
+impl<'a, P: Print> Damages<'a, P> {
+    pub(crate) fn of(to: &'a P, base: Board) -> Self {
+        Damages {
+            to,
+            base,
+            is_balanced: false,
+            next: 0,
+        }
+    }
 
-fn kind(k: usize) -> Kind {
-    match k {
-        0 => Kind::Empty,
-        1 => Kind::Work,
-        2 => Kind::Return,
-        3 => Kind::Request,
-        _ => Kind::Supply,
+    pub(crate) fn balanced(to: &'a P, base: Board) -> Self {
+        Damages {
+            is_balanced: true,
+            ..Damages::of(to, base)
+        }
     }
-}
 
-fn carried(weight: u64, k: usize) -> u64 {
-    match k {
-        0 => 0,
-        1 => weight.wrapping_add(1),
-        _ => GRANT,
+    fn row(&mut self, b: Board) -> io::Result<()> {
+        let told = if self.is_balanced { settled(b) } else { b };
+        damaged(self.to, self.next, told)?;
+        self.next = self.next.wrapping_add(1);
+        Ok(())
     }
-}
 
-fn slot(y: Slot, k: usize) -> Slot {
-    if k < 5 {
-        return edits::of_kind(y, kind(k));
+    fn sizes(&mut self) -> io::Result<()> {
+        let b = self.base;
+        for n in near(b.n) {
+            self.row(Board { n, ..b })?;
+        }
+        for m in near(b.m) {
+            self.row(Board { m, ..b })?;
+        }
+        for delay in near(b.delay) {
+            self.row(Board { delay, ..b })?;
+        }
+        Ok(())
     }
-    if k < 9 {
-        return edits::from(y, unit_number(5, k - 5));
-    }
-    if k < 13 {
-        return edits::to(y, unit_number(5, k - 9));
-    }
-    edits::carrying(y, carried(y.weight, k - 13))
-}
 
-// Slots 0 to 5 and the last, sixteen damages each.
-fn slots(b: Board, k: usize) -> Board {
-    let j = entry(k / 16, 6, 255);
-    let y = b.slots[j];
-    edits::with_slot(b, j, slot(y, k % 16))
-}
+    fn parents(&mut self) -> io::Result<()> {
+        let b = self.base;
+        for i in 0..64u16 {
+            for parent in unit_numbers(i) {
+                let parents = with(b.parents, usize::from(i), parent);
+                self.row(Board { parents, ..b })?;
+            }
+        }
+        Ok(())
+    }
 
-fn debt(x: u64, k: usize) -> u64 {
-    match k {
-        0 => x.wrapping_add(1),
-        1 => x.wrapping_sub(1),
-        2 => 0,
-        3 => MOST,
-        4 => MOST + 1,
-        _ => LARGEST,
+    // Units 0 to 6 and the last.
+    fn units(&mut self) -> io::Result<()> {
+        let b = self.base;
+        for i in [0, 1, 2, 3, 4, 5, 6, 63] {
+            for x in damaged_units(b.units[i]) {
+                let units = with(b.units, i, x);
+                self.row(Board { units, ..b })?;
+            }
+        }
+        Ok(())
     }
-}
 
-// Board k of a table: the base board, then the base board with one field set.
-pub(crate) fn damaged(b: Board, k: usize) -> Board {
-    if k < 1 {
-        return b;
+    fn slot(&mut self, j: usize, y: Slot) -> io::Result<()> {
+        let b = self.base;
+        let slots = with(b.slots, j, y);
+        self.row(Board { slots, ..b })
     }
-    if k < 16 {
-        return sizes(b, k - 1);
+
+    // Slots 0 to 5 and the last.
+    fn slots(&mut self) -> io::Result<()> {
+        for j in [0, 1, 2, 3, 4, 5, 255] {
+            let slot = self.base.slots[j];
+            for kind in KINDS {
+                self.slot(j, Slot { kind, ..slot })?;
+            }
+            for from in unit_numbers(5) {
+                self.slot(j, Slot { from, ..slot })?;
+            }
+            for to in unit_numbers(5) {
+                self.slot(j, Slot { to, ..slot })?;
+            }
+            for weight in [0, slot.weight.wrapping_add(1), GRANT] {
+                self.slot(j, Slot { weight, ..slot })?;
+            }
+        }
+        Ok(())
     }
-    if k < 272 {
-        return parents(b, k - 16);
+
+    // The base board itself, and each field but the debt.
+    pub(crate) fn fields(&mut self) -> io::Result<()> {
+        self.row(self.base)?;
+        self.sizes()?;
+        self.parents()?;
+        self.units()?;
+        self.slots()
     }
-    if k < 336 {
-        return units(b, k - 272);
+
+    pub(crate) fn debts(&mut self) -> io::Result<()> {
+        let b = self.base;
+        for debt in [
+            b.debt.wrapping_add(1),
+            b.debt.wrapping_sub(1),
+            0,
+            MOST,
+            MOST + 1,
+            u64::MAX,
+        ] {
+            self.row(Board { debt, ..b })?;
+        }
+        Ok(())
     }
-    if k < 448 {
-        return slots(b, k - 336);
-    }
-    edits::with_debt(b, debt(b.debt, k - 448))
 }

@@ -3,52 +3,33 @@
 
 mod bases;
 mod damages;
-mod edits;
 mod limits;
-mod lines;
+mod rows;
 mod weights;
 
-use lines::print;
-use rules::Board;
+use damages::Damages;
+use std::io;
 
-// 2^24, what a start or a grant brings.
+// 2^24, what a start or a grant brings. It stands here again, as 2^40 does: the cases hold the library to both.
 pub(crate) const GRANT: u64 = 16777216;
 
 // 2^40, the most debt.
 pub(crate) const MOST: u64 = 1099511627776;
 
-// 2^64 - 1, the most that a weight or a debt can hold.
-pub(crate) const LARGEST: u64 = 18446744073709551615;
-
-// Sizes, parents, units and slots.
-const FIELDS: usize = 448;
-
-// The same and the debt.
-const FIELDS_AND_DEBT: usize = 454;
-
-const LIMITS: usize = 18;
-
-// The base board and so many damages.
-fn damages_table(to: &impl Print, base: Board, count: usize, balanced: bool) {
-    for k in 0..count {
-        let b = damages::damaged(base, k);
-        lines::damaged(to, k, weights::settled(b, balanced));
-    }
-}
-
-fn limits_table(to: &impl Print) {
-    for k in 0..LIMITS {
-        lines::limit(to, k, limits::limit(k));
-    }
+fn all(to: &impl Print) -> io::Result<()> {
+    println!(to; "damaged")?;
+    let mut damages = Damages::of(to, bases::working());
+    damages.fields()?;
+    damages.debts()?;
+    println!(to; "balanced")?;
+    Damages::balanced(to, bases::working()).fields()?;
+    println!(to; "suspended")?;
+    Damages::balanced(to, bases::suspended()).fields()?;
+    println!(to; "limits")?;
+    limits::all(to)
 }
 
 fn main(rt: HostRuntime) {
-    print(&rt, b"damaged\n");
-    damages_table(&rt, bases::working(), FIELDS_AND_DEBT, false);
-    print(&rt, b"balanced\n");
-    damages_table(&rt, bases::working(), FIELDS, true);
-    print(&rt, b"suspended\n");
-    damages_table(&rt, bases::suspended(), FIELDS, true);
-    print(&rt, b"limits\n");
-    limits_table(&rt);
+    // Where the output takes no more, there is nobody left to tell.
+    let _ = all(&rt);
 }

@@ -1,120 +1,69 @@
 // Censuses of the least and the largest size, then of sizes and parents that are refused.
-ghost use Rattle.std.specs.Prelude.{◌≡◌, ◌≤◌};
-
-use crate::lines::row;
-use census::{Counted, Ends};
+use crate::rows::Rows;
+use census::Ends;
+use refusals::number_of;
+use std::io;
 
 // The most parents of a call, 2^16 + 1: narrowed to 16 bits, that count would be in reach.
 const MOST: usize = 65537;
 
-// What a census is asked. The first count parents are lent, and those behind the second are 0.
-#[derive(Clone, Copy)]
-struct Asked {
+const NONE: Ends = Ends {
+    finished: 0,
+    busy: 0,
+    other: 0,
+};
+
+// What is asked, the first two parents among it, and what the census gives: the refusal and the three counts, 0 where there are none.
+fn row<P: Print>(
+    rows: &mut Rows<'_, P>,
     m: u16,
     d: u16,
-    first: u16,
-    second: u16,
-    count: usize,
+    parents: &[u16],
     length: u16,
+) -> io::Result<()> {
+    let counted = census::census(m, d, parents, length);
+    let refusal = number_of(counted);
+    let ends = counted.unwrap_or(NONE);
+    let count = parents.len();
+    let first = parents.first().copied().unwrap_or(0);
+    let second = parents.get(1).copied().unwrap_or(0);
+    rows.begin()?;
+    print!(rows.to; "\t{m}\t{d}\t{count}\t{first}\t{second}\t{length}\t{refusal}")?;
+    println!(rows.to; "\t{}\t{}\t{}", ends.finished, ends.busy, ends.other)
 }
 
-fn ask(m: u16, d: u16, first: u16, second: u16, count: usize, length: u16) -> Asked
-    ensures { result.count ≡ count }
-{
-    Asked {
-        m,
-        d,
-        first,
-        second,
-        count,
-        length,
-    }
+fn sizes<P: Print>(rows: &mut Rows<'_, P>) -> io::Result<()> {
+    row(rows, 1, 0, &[], 0)?; // the least
+    row(rows, 2, 1, &[0, 1], 4)?; // the largest
+    row(rows, 0, 0, &[], 0)?; // the slots
+    row(rows, 3, 0, &[], 0)?;
+    row(rows, 65535, 0, &[], 0)?;
+    row(rows, 258, 0, &[], 0)?; // in reach in its last 8 bits
+    row(rows, 1, 2, &[], 0)?; // the delay
+    row(rows, 1, 256, &[], 0)?;
+    row(rows, 1, 65535, &[], 0)?;
+    row(rows, 1, 0, &[], 5)?; // the length
+    row(rows, 1, 0, &[], 256)?;
+    row(rows, 1, 0, &[], 65535)
 }
 
-// The calls by number; none has more parents than there is room for.
-fn asked_at(k: usize) -> Asked
-    ensures { result.count ≤ 65537 }
-{
-    match k {
-        0 => ask(1, 0, 0, 0, 0, 0), // the least
-        1 => ask(2, 1, 0, 1, 2, 4), // the largest
-        2 => ask(0, 0, 0, 0, 0, 0), // the slots
-        3 => ask(3, 0, 0, 0, 0, 0),
-        4 => ask(65535, 0, 0, 0, 0, 0),
-        5 => ask(258, 0, 0, 0, 0, 0), // in reach in its last 8 bits
-        6 => ask(1, 2, 0, 0, 0, 0), // the delay
-        7 => ask(1, 256, 0, 0, 0, 0),
-        8 => ask(1, 65535, 0, 0, 0, 0),
-        9 => ask(1, 0, 0, 0, 0, 5), // the length
-        10 => ask(1, 0, 0, 0, 0, 256),
-        11 => ask(1, 0, 0, 0, 0, 65535),
-        12 => ask(1, 0, 0, 0, 3, 0), // the number of parents
-        13 => ask(1, 0, 0, 0, 64, 0),
-        14 => ask(1, 0, 0, 0, MOST, 0),
-        15 => ask(1, 0, 1, 0, 1, 0), // a parent that is not below its unit
-        16 => ask(1, 0, 0, 2, 2, 0),
-        17 => ask(1, 0, 0, 65535, 2, 1),
-        18 => ask(1, 0, 256, 0, 1, 0),
-        19 => ask(0, 0, 1, 0, 1, 0), // such a parent, and a size or the length out of reach
-        20 => ask(3, 0, 1, 0, 1, 0),
-        21 => ask(1, 2, 1, 0, 1, 0),
-        22 => ask(1, 0, 1, 0, 1, 5),
-        _ => ask(1, 0, 1, 0, 3, 0),
-    }
+fn parents<P: Print>(rows: &mut Rows<'_, P>) -> io::Result<()> {
+    row(rows, 1, 0, &[0; 3], 0)?; // how many there are
+    row(rows, 1, 0, &[0; 64], 0)?;
+    row(rows, 1, 0, &[0; MOST], 0)?;
+    row(rows, 1, 0, &[1], 0)?; // one that is not below its unit
+    row(rows, 1, 0, &[0, 2], 0)?;
+    row(rows, 1, 0, &[0, 65535], 1)?;
+    row(rows, 1, 0, &[256], 0)?;
+    row(rows, 0, 0, &[1], 0)?; // such a parent, and a size or the length out of reach
+    row(rows, 3, 0, &[1], 0)?;
+    row(rows, 1, 2, &[1], 0)?;
+    row(rows, 1, 0, &[1], 5)?;
+    row(rows, 1, 0, &[1, 0, 0], 0)
 }
 
-fn counted(a: Asked) -> Counted
-    requires { a.count ≤ 65537 }
-{
-    let mut parents = [0u16; MOST];
-    parents[0] = a.first;
-    parents[1] = a.second;
-    let count = a.count;
-    census::census(a.m, a.d, &parents[0..count], a.length)
-}
-
-// The refusal, 0 where there is none.
-fn refusal(c: Counted) -> u64 {
-    match c {
-        Counted::Lists(_) => 0,
-        Counted::Refused(k) => k as u64,
-    }
-}
-
-// The three counts, 0 where the census is refused.
-fn ends(c: Counted) -> Ends {
-    match c {
-        Counted::Lists(e) => e,
-        Counted::Refused(_) => Ends {
-            finished: 0,
-            busy: 0,
-            other: 0,
-        },
-    }
-}
-
-fn told(to: &impl Print, k: usize, a: Asked, c: Counted) {
-    let e = ends(c);
-    row(
-        to,
-        k,
-        &[
-            a.m as u64,
-            a.d as u64,
-            a.count as u64,
-            a.first as u64,
-            a.second as u64,
-            a.length as u64,
-            refusal(c),
-            e.finished as u64,
-            e.busy as u64,
-            e.other as u64,
-        ],
-    );
-}
-
-// Call k of the table.
-pub(crate) fn call(to: &impl Print, k: usize) {
-    let a = asked_at(k);
-    told(to, k, a, counted(a));
+pub(crate) fn all(to: &impl Print) -> io::Result<()> {
+    let mut rows = Rows::under(to, "censuses")?;
+    sizes(&mut rows)?;
+    parents(&mut rows)
 }

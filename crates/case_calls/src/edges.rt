@@ -1,104 +1,64 @@
 // Calls of a writer about the edges of its room: the first part of a buffer of 40 bytes.
-ghost use Rattle.std.specs.Prelude.{◌≤◌};
-
-use crate::lines::row;
-use crate::writers;
-use placing::Wrote;
+use crate::rows::Rows;
+use refusals::{Refusal, number_of};
+use std::io;
 
 const BYTES: usize = 40;
 
-// 2^64 - 1, a place where the end of any line wraps.
-const LARGEST: usize = 18446744073709551615;
-
-// The bytes of a line; a step that is refused whatever the room counts as one byte.
-fn length_of(w: usize) -> usize {
-    let mut buffer = [0u8; BYTES];
-    match writers::write(w, &mut buffer, 0) {
-        Wrote::Count(n) => n,
-        Wrote::Refused(_) => 1,
-    }
-}
-
-// Every room is at most that: the lines are shorter.
-fn at_most_40(x: usize) -> usize
-    ensures { result ≤ 40 }
-{
-    if x < BYTES {
-        return x;
-    }
-    BYTES
-}
-
-// About as many bytes as the line has.
-fn room(length: usize, k: usize) -> usize {
-    match k {
-        0 => 0,
-        1 => length.wrapping_sub(1),
-        2 => length,
-        3 => length.wrapping_add(1),
-        _ => BYTES,
-    }
-}
-
-fn place(room: usize, k: usize) -> usize {
-    match k {
-        0 => 0,
-        1 => 1,
-        2 => room,
-        3 => room.wrapping_add(1),
-        _ => LARGEST,
-    }
-}
-
-// The refusal, 0 where there is none.
-fn refusal(w: Wrote) -> u64 {
-    match w {
-        Wrote::Count(_) => 0,
-        Wrote::Refused(k) => k as u64,
-    }
-}
-
-// The bytes written, 0 where there are none.
-fn count(w: Wrote) -> u64 {
-    match w {
-        Wrote::Count(n) => n as u64,
-        Wrote::Refused(_) => 0,
-    }
-}
-
 // Each byte counts once more than its index says: from the last byte on, what was added so far is added up.
 fn checksum(buffer: [u8; BYTES]) -> u64 {
-    let mut bytes: u64 = 0;
-    let mut sum: u64 = 0;
-    for i in 0..BYTES {
-        bytes = bytes.wrapping_add(buffer[BYTES - 1 - i] as u64);
-        sum = sum.wrapping_add(bytes);
-    }
+    let (_, sum) = buffer
+        .iter()
+        .rev()
+        .fold((0u64, 0u64), |(bytes, sum), byte| {
+            let bytes = bytes.wrapping_add(u64::from(*byte));
+            (bytes, sum.wrapping_add(bytes))
+        });
     sum
 }
 
-fn told(to: &impl Print, k: usize, w: usize, room: usize, at: usize)
-    requires { room ≤ 40 }
+// What the writer is asked, the refusal and the bytes written, of which the one that there is not is 0, and what the buffer holds after
+// it.
+fn row<P: Print, F: Fn(&mut [u8], usize) -> Result<usize, Refusal>>(
+    rows: &mut Rows<'_, P>,
+    name: u16,
+    write: &F,
+    room: usize,
+    at: usize,
+) -> io::Result<()>
+    requires { F.IsAlwaysCallable write.now }
 {
     let mut buffer = [b'.'; BYTES];
-    let wrote = writers::write(w, &mut buffer[0..room], at);
-    row(
-        to,
-        k,
-        &[
-            writers::name(w),
-            room as u64,
-            at as u64,
-            refusal(wrote),
-            count(wrote),
-            checksum(buffer),
-        ],
-    );
+    let lent = room.min(BYTES);
+    let wrote = write(&mut buffer[..lent], at);
+    let refusal = number_of(wrote);
+    let count = wrote.unwrap_or(0);
+    rows.begin()?;
+    println!(rows.to;
+        "\t{name}\t{lent}\t{at}\t{refusal}\t{count}\t{}",
+        checksum(buffer)
+    )
 }
 
-// Call k of the table whose first writer is given: five rooms for each writer, with each of them five places.
-pub(crate) fn call(to: &impl Print, k: usize, first: usize) {
-    let w = first.wrapping_add(k / 25);
-    let room = at_most_40(room(length_of(w), k % 25 / 5));
-    told(to, k, w, room, place(room, k % 5));
+// Five rooms about as large as the text, with each of them five places. A text that is refused whatever the room counts as one byte.
+pub(crate) fn all<P: Print, F: Fn(&mut [u8], usize) -> Result<usize, Refusal>>(
+    rows: &mut Rows<'_, P>,
+    name: u16,
+    write: F,
+) -> io::Result<()>
+    requires { F.IsAlwaysCallable write }
+{
+    let length = write(&mut [0u8; BYTES], 0).unwrap_or(0).max(1);
+    for room in [
+        0,
+        length.wrapping_sub(1),
+        length,
+        length.wrapping_add(1),
+        BYTES,
+    ] {
+        for at in [0, 1, room, room.wrapping_add(1), usize::MAX] {
+            row(rows, name, &write, room, at)?;
+        }
+    }
+    Ok(())
 }

@@ -1,91 +1,44 @@
 // Runs over the first steps of a list, with a buffer of some length.
-ghost use Rattle.std.specs.Prelude.{◌≤◌};
+use crate::rows::Rows;
+use casetext::Step;
+use refusals::number_of;
+use rules::{Board, StepRecord};
+use std::io;
 
-use crate::lines::row;
-use rules::{Board, Ran, StepRecord};
+const STEPS: [Step; 4] = [
+    Step::Start(0),
+    Step::Move(0, 0), // 47
+    Step::Send(0, 1, 0),
+    Step::Unknown(65535), // 16
+];
 
-fn step(kind: u16, other: u16) -> StepRecord {
-    StepRecord {
-        kind,
-        unit: 0,
-        other,
-        slot: 0,
+// What was asked, the refusal and the zeros that the run gives, of which the one that there is not is 0, what the whole buffer holds after
+// it, and the debt.
+fn row<P: Print>(rows: &mut Rows<'_, P>, b: Board, count: usize, room: usize) -> io::Result<()> {
+    let mut buffer = [99u16; 5];
+    let lent = room.min(5);
+    let after = steps::run_list(b, STEPS.map(StepRecord::from), count, &mut buffer[..lent]);
+    let sound = u8::from(board::is_sound(b));
+    let refusal = number_of(after.ran);
+    let zeros = after.ran.unwrap_or(0);
+    rows.begin()?;
+    print!(rows.to; "\t{sound}\t{count}\t{lent}\t{refusal}\t{zeros}")?;
+    for answer in buffer {
+        print!(rows.to; "\t{answer}")?;
     }
+    println!(rows.to; "\t{}", after.board.debt)
 }
 
-// Four steps; those behind them are not run.
-fn list() -> [StepRecord; 16] {
-    let mut list = [step(0, 0); 16];
-    list[0] = step(1, 0); // start 0
-    list[1] = step(8, 0); // move 0 0: 47
-    list[2] = step(2, 1); // send 0 1 0
-    list[3] = step(65535, 0); // 16
-    list
-}
-
-// A fresh board, sound or with a debt that nothing holds.
-fn fresh(sound: bool) -> Board {
-    let mut b = board::open(2, 1, &[0]).board;
-    if !sound {
-        b.debt = 1;
+// A fresh board, and the same with a debt that nothing holds; on each five lengths of the list, with each of them six of the buffer.
+pub(crate) fn all(to: &impl Print) -> io::Result<()> {
+    let fresh = board::open(2, 1, &[0]).board;
+    let mut rows = Rows::under(to, "runs")?;
+    for b in [fresh, Board { debt: 1, ..fresh }] {
+        for count in 0..5 {
+            for room in 0..6 {
+                row(&mut rows, b, count, room)?;
+            }
+        }
     }
-    b
-}
-
-// 1 for a sound board.
-fn soundness(b: Board) -> u64 {
-    if board::is_sound(b) { 1 } else { 0 }
-}
-
-// The refusal, 0 where there is none.
-fn refusal(r: Ran) -> u64 {
-    match r {
-        Ran::Zeros(_) => 0,
-        Ran::Refused(k) => k as u64,
-    }
-}
-
-// The zeros written, 0 where the run is refused.
-fn zeros(r: Ran) -> u64 {
-    match r {
-        Ran::Zeros(n) => n as u64,
-        Ran::Refused(_) => 0,
-    }
-}
-
-// What was asked, what the run gives, what the whole buffer holds after it, and the debt.
-fn line(to: &impl Print, k: usize, asked: [u64; 3], ran: Ran, buffer: [u16; 5], debt: u64) {
-    row(
-        to,
-        k,
-        &[
-            asked[0],
-            asked[1],
-            asked[2],
-            refusal(ran),
-            zeros(ran),
-            buffer[0] as u64,
-            buffer[1] as u64,
-            buffer[2] as u64,
-            buffer[3] as u64,
-            buffer[4] as u64,
-            debt,
-        ],
-    );
-}
-
-fn told(to: &impl Print, k: usize, b: Board, count: usize, room: usize)
-    requires { room ≤ 5 }
-{
-    let mut buffer: [u16; 5] = [99; 5];
-    let r = steps::run_list(b, list(), count, &mut buffer[0..room]);
-    let c = r.board;
-    let ran = r.ran;
-    let asked = [soundness(b), count as u64, room as u64];
-    line(to, k, asked, ran, buffer, c.debt);
-}
-
-// Run k of the table: both boards, on each five lengths of the list, with each of them six of the buffer.
-pub(crate) fn run(to: &impl Print, k: usize) {
-    told(to, k, fresh(k < 30), k % 30 / 6, k % 6);
+    Ok(())
 }

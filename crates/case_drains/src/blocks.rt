@@ -1,45 +1,40 @@
 // A block is a line with its title, then a script; an empty line ends it.
-ghost use Rattle.std.specs.Prelude.{◌≤◌, ◌<◌, length};
+ghost use Rattle.std.specs.Prelude.{◌≤◌, length};
+ghost use Rattle.std.specs.Iterator.{at_most};
 
-use crate::tell;
-use fields::end_from;
+// The blocks of a text, each with its title and its script.
+#[derive(Drop)]
+pub(crate) struct Blocks<'a>(pub(crate) &'a [u8]);
 
-const NEWLINE: u8 = 10;
-
-// The place behind the line at a place, or the text's end.
-#[tactic(auto, using(fields::proofs::PartLaws::end_after, fields::proofs::PartLaws::end_at_most))]
-fn behind(text: &[u8], at: usize) -> usize
-    requires { at ≤ length text.now }
-    ensures { (at ≤ result) × (result ≤ length text.now) × (at < length text.now → at < result) }
+// How many bytes the first line has, with the byte that ends it.
+fn first_line(text: &[u8]) -> usize
+    ensures { result ≤ length text.now }
 {
-    let end = end_from(text, at, NEWLINE);
-    if end < text.len() {
-        return end + 1;
-    }
-    end
+    text.iter()
+        .position(|byte| *byte == b'\n')
+        .map_or(text.len(), |at| at + 1)
 }
 
-// The place of the next empty line, or the text's end.
-fn block_end(text: &[u8], from: usize) -> usize
-    requires { from ≤ length text.now }
-    ensures { (from ≤ result) × (result ≤ length text.now) }
+// How many bytes the first block has, without the empty line that ends it.
+fn first_block(text: &[u8]) -> usize
+    ensures { result ≤ length text.now }
 {
-    let mut at = from;
-    while at < text.len() {
-        if text[at] == NEWLINE {
-            return at;
+    text.windows(2)
+        .position(|pair| pair == b"\n\n".as_slice())
+        .map_or(text.len(), |at| at + 1)
+}
+
+impl<'a> Iterator for Blocks<'a> {
+    type Item = (&'a [u8], &'a [u8]);
+
+    ghost remaining = { λ s. at_most (length s.0.now) };
+
+    fn next(&mut self) -> Option<(&'a [u8], &'a [u8])> {
+        if self.0.is_empty() {
+            return None;
         }
-        at = behind(text, at);
-    }
-    at
-}
-
-pub(crate) fn all(to: &impl Print, text: &[u8]) {
-    let mut at = 0;
-    while at < text.len() {
-        let script = behind(text, at);
-        let end = block_end(text, script);
-        tell::block(to, &text[at..script], &text[script..end]);
-        at = behind(text, end);
+        let (block, behind) = self.0.split_at(first_block(self.0));
+        self.0 = behind.get(1..).unwrap_or(&[]);
+        Some(block.split_at(first_line(block)))
     }
 }

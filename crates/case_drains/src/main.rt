@@ -4,10 +4,20 @@
 mod blocks;
 mod tell;
 
+use blocks::Blocks;
 use reading::read_full;
+use std::io;
+
+fn all(to: &impl Print, text: &[u8]) -> io::Result<()> {
+    for (title, script) in Blocks(text) {
+        tell::block(to, title, script)?;
+    }
+    Ok(())
+}
 
 fn main(rt: HostRuntime) {
     let mut input = [0u8; 65536];
     let n = read_full(&mut rt.stdin(), &mut input);
-    blocks::all(&rt, &input[0..n]);
+    // Where the output takes no more, there is nobody left to tell.
+    let _ = all(&rt, &input[..n]);
 }

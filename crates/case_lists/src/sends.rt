@@ -1,71 +1,48 @@
 // One unit sends from 2^24 until its weight is 1: 1,978 times, 961 of them down to below 2^20. Each message is delivered before the next, so that the slot is free.
-use crate::print::{row, text};
-use rules::{Board, Outcome, StepRecord};
+use casetext::Step;
+use refusals::number_of;
+use rules::{Board, Outcome};
+use std::io;
 
-const SENDS: u64 = 1978;
+const SENDS: u32 = 1978;
 
-const START: u16 = 1;
-
-const SEND: u16 = 2;
-
-const DELIVER: u16 = 4;
-
-// No cells behind a number.
-const NOTHING: [u64; 0] = [];
-
-fn step(b: Board, kind: u16, other: u16) -> Outcome {
-    let r = StepRecord {
-        kind,
-        unit: 0,
-        other,
-        slot: 0,
-    };
-    steps::step(b, r)
+fn step(b: Board, step: Step) -> Outcome {
+    steps::step(b, step.into())
 }
 
-// Every hundredth send is written, and one that is refused.
-fn is_written(k: u64, answer: u16) -> bool {
-    k % 100 == 0 || answer != 0
+fn row(to: &impl Print, k: u32, sent: Outcome) -> io::Result<()> {
+    let left = sent.board.units[0].weight;
+    println!(to; "{k}\t{}\t{left}", number_of(sent.answer))
 }
 
-fn line(to: &impl Print, k: u64, answer: u16, b: Board) {
-    let x = b.units[0];
-    row(to, k, &[answer as u64, x.weight]);
-}
-
-// Send k, from unit 0 to unit 1 by slot 0, and its delivery.
-fn send(to: &impl Print, b: Board, k: u64) -> Board {
-    let out = step(b, SEND, 1);
-    if is_written(k, out.answer) {
-        line(to, k, out.answer, out.board);
+// Send k, from unit 0 to unit 1 by slot 0, and its delivery. Every hundredth send is written, and one that is refused.
+fn send(to: &impl Print, b: Board, k: u32) -> io::Result<Board> {
+    let sent = step(b, Step::Send(0, 1, 0));
+    if k % 100 == 0 || sent.answer.is_err() {
+        row(to, k, sent)?;
     }
-    step(out.board, DELIVER, 0).board
-}
-
-fn sends(to: &impl Print, mut b: Board) -> Board {
-    for k in 1..SENDS {
-        b = send(to, b, k);
-    }
-    b
+    Ok(step(sent.board, Step::Deliver(0)).board)
 }
 
 // The last send that is accepted, and the next.
-fn last_sends(to: &impl Print, b: Board) -> Board {
-    let last = step(b, SEND, 1);
-    line(to, SENDS, last.answer, last.board);
-    let c = step(last.board, DELIVER, 0).board;
-    let next = step(c, SEND, 1);
-    line(to, SENDS + 1, next.answer, next.board);
-    next.board
+fn last_sends(to: &impl Print, b: Board) -> io::Result<Board> {
+    let last = step(b, Step::Send(0, 1, 0));
+    row(to, SENDS, last)?;
+    let delivered = step(last.board, Step::Deliver(0)).board;
+    let next = step(delivered, Step::Send(0, 1, 0));
+    row(to, SENDS + 1, next)?;
+    Ok(next.board)
 }
 
-pub(crate) fn all(to: &impl Print) {
-    text(to, b"send\tanswer\tleft\n");
+pub(crate) fn all(to: &impl Print) -> io::Result<()> {
+    println!(to; "send\tanswer\tleft")?;
     let fresh = board::open(1, 0, &[0]).board;
-    let b = last_sends(to, sends(to, step(fresh, START, 0).board));
-    let y = b.units[1];
-    text(to, b"received\t");
-    row(to, y.weight, &NOTHING);
-    text(to, b"debt\t");
-    row(to, b.debt, &NOTHING);
+    let mut b = step(fresh, Step::Start(0)).board;
+    for k in 1..SENDS {
+        b = send(to, b, k)?;
+    }
+    let left = last_sends(to, b)?;
+    let received = left.units[1].weight;
+    println!(to; "received\t{received}")?;
+    println!(to; "debt\t{}", left.debt)
 }

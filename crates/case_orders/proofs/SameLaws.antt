@@ -1,58 +1,72 @@
--- Laws of equal entries: four numbers, one turn over the entries, an entry that differs.
-use mathlib.Core.Path.{◌≡◌, refl}
-use mathlib.Core.Bool.{Bool, true, false, ◌&&◌, and-true, and-false}
-use mathlib.Core.List.{List, [], ◌∷◌}
-use Prim.Native.Nat.{ℕ, zero, suc, ◌+◌, ◌<◌}
-use native.Mathlib.Numerals.{add-one}
-use native.Mathlib.Omega.{arith}
-use borrow.Author.Tests.{eq-eqb, eqb-true, eqb-false}
-use lib.Dec.{eqb}
-use lib.ListN.{length, get_or}
-use Rattle.rules.specs.Facts.{same_list}
+-- What `==` asks of two boards, part by part: each test decides whether the parts are the same.
+use Rattle.std.proofs.Common.{◌≡◌, Bool, ◌&&◌, List, Option, nat_eq, rules}
+use Rattle.std.specs.Bool.{Decides}
+use Rattle.std.specs.Cmp.{booleans_Decides}
+use Rattle.std.specs.Option.{option_eq}
+use Rattle.std.proofs.lemmas.Bool.Decides.{Decides-eqb}
+use mathlib.Core.Bool.{beq}
+use Prim.Native.Nat.{ℕ}
+use lib.Pointwise.{pointwise, pointwise_decides}
+use denote.Enum.Bare.{sameb, same_true, true_same}
+use Rattle.rules.specs.contracts.State.{the_type as state_type}
+use Rattle.rules.specs.contracts.Kind.{the_type as kind_type}
+use Rattle.rules.specs.contracts.Round.{the_type as round_type}
+use Rattle.rules.specs.declared.State.{State}
+use Rattle.rules.specs.declared.Kind.{Kind}
+use Rattle.rules.specs.declared.Round.{Round}
+use Rattle.rules.specs.declared.UnitRecord.{UnitRecord}
+use Rattle.rules.specs.declared.Slot.{Slot}
+use Rattle.rules.specs.declared.Rounds.{Rounds}
 use Rattle.rules.specs.declared.Board.{Board}
-use Rattle.casetext.specs.Entries.{entry_of}
-use Rattle.case_orders.specs.Same.{same_entries}
 
--- ---- a list of four numbers is its four numbers
-four : (x : List ℕ) → length x ≡ 4 → x ≡ get_or x 0 0 ∷ get_or x 1 0 ∷ get_or x 2 0 ∷ get_or x 3 0 ∷ []
-four [] h = absurd (omega arith)
-four (p ∷ []) h = absurd (omega arith)
-four (p ∷ q ∷ []) h = absurd (omega arith)
-four (p ∷ q ∷ r ∷ []) h = absurd (omega arith)
-four (p ∷ q ∷ r ∷ s ∷ []) h = refl
-four (p ∷ q ∷ r ∷ s ∷ t ∷ l) h = absurd (omega arith)
+numbers_same : (xs ys : List ℕ) → Decides (pointwise nat_eq xs ys) (xs ≡ ys)
+numbers_same = pointwise_decides Decides-eqb
 
-abbrev pub same_four : List ℕ → List ℕ → Bool
-same_four x y = eqb (get_or x 0 0) (get_or y 0 0) && (eqb (get_or x 1 0) (get_or y 1 0) && (eqb (get_or x 2 0) (get_or y 2 0) && (eqb (get_or x 3 0) (get_or y 3 0) && true)))
+state_same : (x y : State) → Decides (sameb state_type x y) (x ≡ y)
+state_same x y = (same_true state_type tt x y, true_same state_type x y)
 
-pub same_by_four : (x y : List ℕ) → length x ≡ 4 → length y ≡ 4 → same_list x y ≡ same_four x y
-unfolding same_list
-same_by_four x y h k = rw (four x h, four y k)
+kind_same : (x y : Kind) → Decides (sameb kind_type x y) (x ≡ y)
+kind_same x y = (same_true kind_type tt x y, true_same kind_type x y)
 
--- where the first three are equal, the last decides
-pub last_decides : (x y : List ℕ) → get_or x 0 0 ≡ get_or y 0 0 → get_or x 1 0 ≡ get_or y 1 0 → get_or x 2 0 ≡ get_or y 2 0 → eqb (get_or x 3 0) (get_or y 3 0) ≡ same_four x y
-last_decides x y p q r = rw (eq-eqb _ _ p, eq-eqb _ _ q, eq-eqb _ _ r, and-true)
+round_same : (x y : Option Round) → Decides (option_eq (sameb round_type) x y) (x ≡ y)
+round_same x y = search rules
 
--- ---- the entries of two boards
-module _ (a b : Board) where
-  pub none_yet : same_entries a b 0 ≡ true
-  unfolding same_entries
-  none_yet = refl
+abbrev unit_eq : UnitRecord → UnitRecord → Bool
+unit_eq x y = nat_eq x.weight y.weight && (nat_eq x.countdown y.countdown && (sameb state_type x.state y.state && beq x.suspended y.suspended))
 
-  pub one_more : (i : ℕ) → same_list (entry_of a i) (entry_of b i) ≡ true → same_entries a b i ≡ true → same_entries a b (i + 1) ≡ true
-  unfolding same_entries
-  one_more i e h = rw (add-one, e, h)
+unit_same : (x y : UnitRecord) → Decides (unit_eq x y) (x ≡ y)
+unit_same x y = search rules
 
-  -- what was found of an entry
-  pub found : (i : ℕ) {x y : List ℕ} {t : Bool} → x ≡ entry_of a i → y ≡ entry_of b i → t ≡ same_list x y → same_list (entry_of a i) (entry_of b i) ≡ t
-  found i p q e = cc
+abbrev slot_eq : Slot → Slot → Bool
+slot_eq x y = nat_eq x.weight y.weight && (nat_eq x.from y.from && (nat_eq x.to y.to && sameb kind_type x.kind y.kind))
 
-  -- one entry that differs
-  pub one_differs : (k i : ℕ) → i < k → same_list (entry_of a i) (entry_of b i) ≡ false → same_entries a b k ≡ false
-  unfolding same_entries
-  one_differs zero i h e = absurd (omega arith)
-  one_differs (suc k) i h e = at (same_entries a b k) (eqb i k) refl (one_differs k i)
-    where
-      at : (s t : Bool) → eqb i k ≡ t → (i < k → same_list (entry_of a i) (entry_of b i) ≡ false → s ≡ false) → same_list (entry_of a k) (entry_of b k) && s ≡ false
-      at s true q f = rw (← eqb-true i k q, e)
-      at s false q f = rw (f (omega (arith, eqb-false i k q)) e) (and-false (same_list (entry_of a k) (entry_of b k)))
+slot_same : (x y : Slot) → Decides (slot_eq x y) (x ≡ y)
+slot_same x y = search rules
+
+units_same : (xs ys : List UnitRecord) → Decides (pointwise unit_eq xs ys) (xs ≡ ys)
+units_same = pointwise_decides unit_same
+
+slots_same : (xs ys : List Slot) → Decides (pointwise slot_eq xs ys) (xs ≡ ys)
+slots_same = pointwise_decides slot_same
+
+marks_same : (xs ys : List Bool) → Decides (pointwise beq xs ys) (xs ≡ ys)
+marks_same = pointwise_decides booleans_Decides
+
+abbrev rounds_eq : Rounds → Rounds → Bool
+rounds_eq x y = option_eq (sameb round_type) x.round y.round && (pointwise beq x.visited y.visited && (nat_eq x.processed y.processed && nat_eq x.created y.created))
+
+rounds_same : (x y : Rounds) → Decides (rounds_eq x y) (x ≡ y)
+rounds_same x y = search (rules, round_same, marks_same)
+
+-- field after field, in the order of the record
+abbrev pub boards_eq : Board → Board → Bool
+boards_eq x y =
+    nat_eq x.n y.n
+    && (pointwise nat_eq x.parents y.parents
+    && (pointwise unit_eq x.units y.units
+    && (nat_eq x.m y.m
+    && (pointwise slot_eq x.slots y.slots
+    && (nat_eq x.delay y.delay && (nat_eq x.debt y.debt && (pointwise nat_eq x.created y.created && (pointwise nat_eq x.processed y.processed && rounds_eq x.rounds y.rounds))))))))
+
+pub boards_same : (x y : Board) → Decides (boards_eq x y) (x ≡ y)
+boards_same x y = search (rules, numbers_same, units_same, slots_same, rounds_same)

@@ -6,42 +6,36 @@
 // Any other line is a step on that board, but for an empty one.
 use crate::building::{built, counted};
 use crate::pairs;
-use crate::print::text;
-use fields::end_from;
 use rules::Board;
+use std::io;
 
-fn turn(to: &impl Print, b: Board, line: &[u8]) -> Board {
-    let end = line.len();
-    if end == 0 {
-        return b;
-    }
-    if line[0] == b'#' {
-        text(to, line);
-        text(to, b"\n");
-        return b;
-    }
-    let middle = end_from(line, 0, b';');
-    if middle < end {
-        let behind = middle + 1;
-        pairs::tell(to, b, &line[0..middle], &line[behind..end]);
-        return b;
-    }
-    if line == b"round".as_slice() {
-        return counted(b);
-    }
-    built(b, line)
+// The two steps of a line that has a pair.
+fn pair(line: &[u8]) -> Option<(&[u8], &[u8])> {
+    let middle = line.iter().position(|byte| *byte == b';')?;
+    Some((&line[..middle], &line[middle + 1..]))
 }
 
-#[tactic(auto, using(fields::proofs::PartLaws::end_after, fields::proofs::PartLaws::end_at_most))]
-pub(crate) fn all(to: &impl Print, input: &[u8]) {
-    let mut b = board::blank();
-    let mut at = 0;
-    while at < input.len() {
-        let end = end_from(input, at, b'\n');
-        b = turn(to, b, &input[at..end]);
-        if end == input.len() {
-            return;
+// The board behind a line.
+fn turn(to: &impl Print, b: Board, line: &[u8]) -> io::Result<Board> {
+    match line {
+        [] => {}
+        [b'#', ..] => {
+            to.write_all(line)?;
+            println!(to)?;
         }
-        at = end + 1;
+        b"round" => return Ok(counted(b)),
+        _ => match pair(line) {
+            Some((first, second)) => pairs::tell(to, b, first, second)?,
+            None => return Ok(built(b, line)),
+        },
     }
+    Ok(b)
+}
+
+pub(crate) fn all(to: &impl Print, input: &[u8]) -> io::Result<()> {
+    let mut b = board::blank();
+    for line in input.split(|byte| *byte == b'\n') {
+        b = turn(to, b, line)?;
+    }
+    Ok(())
 }

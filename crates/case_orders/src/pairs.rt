@@ -1,35 +1,31 @@
 // A pair of steps, taken in both orders on one board.
 use crate::building::step_of;
-use crate::print::{cell, text};
 use crate::same::same_boards;
+use refusals::number_of;
 use rules::{Board, StepRecord};
+use std::io;
 
 // Tells what both steps answer, the second on the board that the first left.
-fn in_order(to: &impl Print, b: Board, first: StepRecord, second: StepRecord) -> Board {
+fn in_order(to: &impl Print, b: Board, first: StepRecord, second: StepRecord) -> io::Result<Board> {
     let x = steps::step(b, first);
     let y = steps::step(x.board, second);
-    cell(to, x.answer as u64);
-    cell(to, y.answer as u64);
-    y.board
+    print!(to; "\t{}\t{}", number_of(x.answer), number_of(y.answer))?;
+    Ok(y.board)
 }
 
-fn tell_same(to: &impl Print, same: bool) {
-    if same {
-        text(to, b"\tsame\n");
-    } else {
-        text(to, b"\tdiffer\n");
-    }
-}
-
-pub(crate) fn tell(to: &impl Print, b: Board, first: &[u8], second: &[u8]) {
-    text(to, first);
-    text(to, b";");
-    text(to, second);
+pub(crate) fn tell(to: &impl Print, b: Board, first: &[u8], second: &[u8]) -> io::Result<()> {
+    to.write_all(first)?;
+    print!(to; ";")?;
+    to.write_all(second)?;
     let q = step_of(first);
     let r = step_of(second);
-    text(to, b"\tgives");
-    let x = in_order(to, b, q, r);
-    text(to, b"\tand");
-    let y = in_order(to, b, r, q);
-    tell_same(to, same_boards(x, y));
+    print!(to; "\tgives")?;
+    let x = in_order(to, b, q, r)?;
+    print!(to; "\tand")?;
+    let y = in_order(to, b, r, q)?;
+    if same_boards(x, y) {
+        println!(to; "\tsame")
+    } else {
+        println!(to; "\tdiffer")
+    }
 }

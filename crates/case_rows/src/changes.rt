@@ -1,120 +1,82 @@
 // How a board differs from another: a line for each entry that does.
-use crate::print::{cell, newline, tab, text, word};
 use casetext::entry;
 use rules::Board;
+use std::io;
 
-const STATES: [u8; 19] = *b"idle\tactive\twaiting";
+const STATES: [&str; 3] = ["idle", "active", "waiting"];
 
-const KINDS: [u8; 32] = *b"empty\twork\treturn\trequest\tsupply";
+const KINDS: [&str; 5] = ["empty", "work", "return", "request", "supply"];
 
-const SUSPENSIONS: [u8; 14] = *b"free\tsuspended";
+const SUSPENSIONS: [&str; 2] = ["free", "suspended"];
 
-const ROUNDS: [u8; 12] = *b"none\tone\ttwo";
+const ROUNDS: [&str; 3] = ["none", "one", "two"];
 
-fn same(x: [u64; 4], y: [u64; 4]) -> bool {
-    x[0] == y[0] && x[1] == y[1] && x[2] == y[2] && x[3] == y[3]
+fn word<'a>(words: &[&'a str], place: u64) -> &'a str {
+    words.get(place as usize).copied().unwrap_or("")
 }
 
-// Begins a line of its own, under the line of the case: a word and a number.
-fn under(to: &impl Print, t: &[u8], n: u64) {
-    newline(to);
-    tab(to);
-    text(to, t);
-    cell(to, n);
-}
-
-fn tell_unit(to: &impl Print, i: usize, e: [u64; 4]) {
-    under(to, b"unit", i as u64);
-    tab(to);
-    word(to, &STATES, e[0] as usize);
-    cell(to, e[1]);
-    cell(to, e[2]);
-    tab(to);
-    word(to, &SUSPENSIONS, e[3] as usize);
-}
-
-fn tell_slot(to: &impl Print, i: usize, e: [u64; 4]) {
-    under(to, b"slot", i as u64);
-    tab(to);
-    word(to, &KINDS, e[0] as usize);
-    cell(to, e[1]);
-    cell(to, e[2]);
-    cell(to, e[3]);
-}
-
-fn tell_counts(to: &impl Print, i: usize, e: [u64; 4]) {
-    under(to, b"counts", i as u64);
-    cell(to, e[0]);
-    cell(to, e[1]);
-}
-
-fn tell_mark(to: &impl Print, i: usize, e: [u64; 4]) {
-    under(to, b"mark", i as u64);
-    cell(to, e[0]);
-}
-
-fn tell_round(to: &impl Print, e: [u64; 4]) {
-    newline(to);
-    tab(to);
-    text(to, b"round");
-    tab(to);
-    word(to, &ROUNDS, e[0] as usize);
-    cell(to, e[1]);
-    cell(to, e[2]);
-}
-
-fn tell_rounds(to: &impl Print, i: usize, e: [u64; 4]) {
+fn tell_rounds(to: &impl Print, i: usize, e: [u64; 4]) -> io::Result<()> {
     if i < 64 {
-        tell_counts(to, i, e);
+        print!(to; "\n\tcounts\t{i}\t{}\t{}", e[0], e[1])
     } else if i < 128 {
-        tell_mark(to, i - 64, e);
+        print!(to; "\n\tmark\t{}\t{}", i - 64, e[0])
     } else {
-        tell_round(to, e);
+        print!(to; "\n\tround\t{}\t{}\t{}", word(&ROUNDS, e[0]), e[1], e[2])
     }
 }
 
-fn tell_entry(to: &impl Print, i: usize, e: [u64; 4]) {
+fn tell_entry(to: &impl Print, i: usize, e: [u64; 4]) -> io::Result<()> {
     if i < 64 {
-        under(to, b"parent", i as u64);
-        cell(to, e[0]);
+        print!(to; "\n\tparent\t{i}\t{}", e[0])
     } else if i < 128 {
-        tell_unit(to, i - 64, e);
+        let suspension = word(&SUSPENSIONS, e[3]);
+        print!(to;
+            "\n\tunit\t{}\t{}\t{}\t{}\t{suspension}",
+            i - 64,
+            word(&STATES, e[0]),
+            e[1],
+            e[2]
+        )
     } else if i < 384 {
-        tell_slot(to, i - 128, e);
+        print!(to;
+            "\n\tslot\t{}\t{}\t{}\t{}\t{}",
+            i - 128,
+            word(&KINDS, e[0]),
+            e[1],
+            e[2],
+            e[3]
+        )
     } else {
-        tell_rounds(to, i - 384, e);
+        tell_rounds(to, i - 384, e)
     }
 }
 
-fn entries_same(to: &impl Print, a: Board, b: Board) -> bool {
+fn entries_same(to: &impl Print, a: Board, b: Board) -> io::Result<bool> {
     let mut all = true;
     for i in 0..513 {
         let e = entry(b, i);
-        if !same(entry(a, i), e) {
-            tell_entry(to, i, e);
+        if entry(a, i) != e {
+            tell_entry(to, i, e)?;
             all = false;
         }
     }
-    all
+    Ok(all)
 }
 
-fn sizes_same(to: &impl Print, a: Board, b: Board) -> bool {
-    if a.n == b.n && a.m == b.m && a.delay == b.delay {
-        return true;
+fn sizes_same(to: &impl Print, a: Board, b: Board) -> io::Result<bool> {
+    let same = a.n == b.n && a.m == b.m && a.delay == b.delay;
+    if !same {
+        print!(to; "\n\tsizes\t{}\t{}\t{}", b.n, b.m, b.delay)?;
     }
-    under(to, b"sizes", b.n as u64);
-    cell(to, b.m as u64);
-    cell(to, b.delay as u64);
-    false
+    Ok(same)
 }
 
 // Writes how b differs from a, or the word `kept` where it does not. The debt is not written: it stands in the case's line.
-pub(crate) fn tell(to: &impl Print, a: Board, b: Board, kept: &[u8]) {
-    let sizes = sizes_same(to, a, b);
-    let entries = entries_same(to, a, b);
+pub(crate) fn tell(to: &impl Print, a: Board, b: Board, kept: &str) -> io::Result<()> {
+    let sizes = sizes_same(to, a, b)?;
+    let entries = entries_same(to, a, b)?;
     if sizes && entries && a.debt == b.debt {
-        tab(to);
-        text(to, kept);
+        print!(to; "\t{kept}")?;
     }
-    newline(to);
+    println!(to)
 }

@@ -1,139 +1,112 @@
 // The lines that a case writes.
-use crate::print::{cell, newline, number, tab, text, word};
-use crate::words::{CASES, KINDS};
-use crate::{changes, edits, print, words};
-use rules::{Board, Finding, Outcome, StepRecord};
+use crate::cases::Case;
+use crate::changes;
+use crate::edits::{after, opened, small, step_of};
+use crate::words::{Word, kind_word};
+use casetext::{Step, Told};
+use rules::{Board, Depth, Finding, Outcome};
+use std::io;
 
 // Answer, debt and verdict, then what is not as on the board a.
-fn outcome(to: &impl Print, a: Board, out: Outcome, kept: &[u8]) -> Board {
-    let b = out.board;
-    cell(to, out.answer as u64);
-    cell(to, b.debt);
-    tab(to);
-    print::verdict(to, board::finished(b));
-    changes::tell(to, a, b, kept);
-    b
+fn outcome(to: &impl Print, a: Board, out: Outcome, kept: &str) -> io::Result<Board> {
+    let verdict = Told(board::finished(out.board));
+    print!(to; "\t{}\t{}\t{verdict}", out.answer, out.board.debt)?;
+    changes::tell(to, a, out.board, kept)?;
+    Ok(out.board)
+}
+
+fn cells(to: &impl Print, numbers: &[u64]) -> io::Result<()> {
+    for n in numbers {
+        print!(to; "\t{n}")?;
+    }
+    Ok(())
+}
+
+fn name(to: &impl Print, case: &Case<'_>) -> io::Result<()> {
+    to.write_all(case.name)?;
+    cells(to, &case.numbers)
 }
 
 // The word of a step's kind; a kind outside 1 to 8 has only its number.
-fn kind(to: &impl Print, k: u64) {
-    if 0 < k && k < 9 {
-        word(to, &KINDS, k as usize - 1);
-    } else {
-        number(to, k);
+fn step(to: &impl Print, b: Board, kind: u64, case: &Case<'_>) -> io::Result<Board> {
+    match kind_word(kind) {
+        Some(word) => to.write_all(word)?,
+        None => print!(to; "{kind}")?,
     }
-}
-
-// The numbers of a case from one on.
-fn cells(to: &impl Print, row: [u64; 5], from: usize) {
-    for i in from..5 {
-        cell(to, row[i]);
-    }
-}
-
-fn step(to: &impl Print, b: Board, row: [u64; 5]) -> Board {
-    kind(to, row[1]);
-    cells(to, row, 2);
-    outcome(to, b, steps::step(b, edits::step_of(row)), b"kept")
-}
-
-fn name(to: &impl Print, row: [u64; 5]) {
-    word(to, &CASES, row[0] as usize);
-    cells(to, row, 1);
+    cells(to, &case.numbers[..3])?;
+    outcome(to, b, steps::step(b, step_of(kind, case)), "kept")
 }
 
 // What an opening hands back is held against a blank board.
-fn opening(to: &impl Print, row: [u64; 5]) -> Board {
-    name(to, row);
-    outcome(to, board::blank(), edits::opened(row), b"blank")
+fn opening(to: &impl Print, case: &Case<'_>) -> io::Result<Board> {
+    name(to, case)?;
+    outcome(to, board::blank(), opened(case), "blank")
 }
 
-fn depth(to: &impl Print, b: Board, row: [u64; 5]) -> Board {
-    text(to, b"depth");
-    cell(to, row[1]);
-    tab(to);
-    print::depth(to, board::depth_of(b, edits::small(row[1])));
-    newline(to);
-    b
-}
-
-fn begin(to: &impl Print, b: Board) -> Board {
-    text(to, b"begin");
-    outcome(to, b, rounds::begin(b), b"kept")
-}
-
-// The finding's word.
-fn finding(to: &impl Print, x: Finding) {
-    match x {
-        Finding::NoVerdict => text(to, b"no verdict yet"),
-        Finding::AllQuiet => text(to, b"quiet"),
-        Finding::Unsettled => text(to, b"unsettled"),
-        Finding::Refused(_) => text(to, b"refused"),
+fn tell_depth(to: &impl Print, d: Depth) -> io::Result<()> {
+    match d {
+        Depth::Deep(x) => print!(to; "\tdeep\t{x}"),
+        Depth::Refused(k) => print!(to; "\t{k}"),
     }
 }
 
-// The finding's number.
-fn number_of(x: Finding) -> u16 {
+fn depth(to: &impl Print, b: Board, unit: u64) -> io::Result<Board> {
+    print!(to; "depth\t{unit}")?;
+    tell_depth(to, board::depth_of(b, small(unit)))?;
+    println!(to)?;
+    Ok(b)
+}
+
+fn begin(to: &impl Print, b: Board) -> io::Result<Board> {
+    print!(to; "begin")?;
+    outcome(to, b, rounds::begin(b), "kept")
+}
+
+// The finding's word, and its number.
+fn found(x: Finding) -> (&'static str, u16) {
     match x {
-        Finding::NoVerdict => 0,
-        Finding::AllQuiet => 0,
-        Finding::Unsettled => 0,
-        Finding::Refused(k) => k,
+        Finding::NoVerdict => ("no verdict yet", 0),
+        Finding::AllQuiet => ("quiet", 0),
+        Finding::Unsettled => ("unsettled", 0),
+        Finding::Refused(k) => ("refused", k),
     }
 }
 
-fn visit(to: &impl Print, b: Board, row: [u64; 5]) -> Board {
-    text(to, b"visit");
-    cell(to, row[1]);
-    tab(to);
-    let v = rounds::visit(b, edits::small(row[1]));
-    let x = v.finding;
-    finding(to, x);
-    let answer = number_of(x);
-    let board = v.board;
-    let out = Outcome { board, answer };
-    outcome(to, b, out, b"kept")
+fn visit(to: &impl Print, b: Board, unit: u64) -> io::Result<Board> {
+    let visited = rounds::visit(b, small(unit));
+    let (word, answer) = found(visited.finding);
+    print!(to; "visit\t{unit}\t{word}")?;
+    let board = visited.board;
+    outcome(to, b, Outcome { board, answer }, "kept")
 }
 
-fn soundness(to: &impl Print, sound: bool) {
-    if sound {
-        text(to, b"sound");
+// Whether the edited board is sound, and what a step, depth and finished answer. No sound board takes the step, since unit 0 never waits:
+// 38.
+fn edit(to: &impl Print, b: Board, case: &Case<'_>) -> io::Result<Board> {
+    let edited = after(b, case);
+    name(to, case)?;
+    let sound = if board::is_sound(edited) {
+        "sound"
     } else {
-        text(to, b"unsound");
-    }
-}
-
-// A step that no sound board takes, since unit 0 never waits: 38.
-const TICK_0: StepRecord = StepRecord {
-    kind: 6,
-    unit: 0,
-    other: 0,
-    slot: 0,
-};
-
-// Whether the edited board is sound, and what a step, depth and finished answer.
-fn edit(to: &impl Print, b: Board, row: [u64; 5]) -> Board {
-    let c = edits::after(b, row);
-    name(to, row);
-    tab(to);
-    soundness(to, board::is_sound(c));
-    cell(to, steps::step(c, TICK_0).answer as u64);
-    tab(to);
-    print::depth(to, board::depth_of(c, 0));
-    tab(to);
-    print::verdict(to, board::finished(c));
-    newline(to);
-    c
+        "unsound"
+    };
+    let answer = steps::step(edited, Step::Tick(0).into()).answer;
+    print!(to; "\t{sound}\t{answer}")?;
+    tell_depth(to, board::depth_of(edited, 0))?;
+    let verdict = Told(board::finished(edited));
+    println!(to; "\t{verdict}")?;
+    Ok(edited)
 }
 
 // Runs a case, writes what it gives, and hands back the board after it.
-pub(crate) fn case(to: &impl Print, b: Board, row: [u64; 5]) -> Board {
-    match row[0] {
-        words::OPEN | words::CHAIN => opening(to, row),
-        words::STEP => step(to, b, row),
-        words::DEPTH => depth(to, b, row),
-        words::BEGIN => begin(to, b),
-        words::VISIT => visit(to, b, row),
-        _ => edit(to, b, row),
+pub(crate) fn case(to: &impl Print, b: Board, case: &Case<'_>) -> io::Result<Board> {
+    let first = case.numbers[0];
+    match case.word {
+        Word::Open | Word::Chain => opening(to, case),
+        Word::Step(kind) => step(to, b, kind, case),
+        Word::Depth => depth(to, b, first),
+        Word::Begin => begin(to, b),
+        Word::Visit => visit(to, b, first),
+        _ => edit(to, b, case),
     }
 }

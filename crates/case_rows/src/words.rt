@@ -1,74 +1,73 @@
-// The words of the cases, found by comparing.
-use fields::field;
+// The words of the cases.
+use rules::{Kind, State};
 
-// What a case is, by the place of its word, and the numbers that stand behind it.
-// An opening: M, d, how many parents, the last parent. The other parents are 0.
-pub(crate) const OPEN: u64 = 0;
-
-// An opening: M, d, how many parents. Each unit's parent is the unit before it.
-pub(crate) const CHAIN: u64 = 1;
-
-// A question: the unit whose depth is asked for.
-pub(crate) const DEPTH: u64 = 2;
-
-// The cases from here on build a board directly, or damage one. The debt follows the weights and unit 0's created count the work under
-// way, but for the cases that set them.
-// n, M, d.
-pub(crate) const SIZES: u64 = 3;
-
-// A unit, its parent.
-pub(crate) const PARENT: u64 = 4;
-
-// The debt.
-pub(crate) const DEBT: u64 = 5;
-
-// A unit, its weight, its countdown, 1 if it is suspended.
-pub(crate) const IDLE_UNIT: u64 = 6;
-
-pub(crate) const ACTIVE_UNIT: u64 = 7;
-
-pub(crate) const WAITING_UNIT: u64 = 8;
-
-// A slot, its from, to and weight. An empty slot is 9.
-pub(crate) const WORK_SLOT: u64 = 10;
-
-pub(crate) const RETURN_SLOT: u64 = 11;
-
-pub(crate) const REQUEST_SLOT: u64 = 12;
-
-pub(crate) const SUPPLY_SLOT: u64 = 13;
-
-// The counting rounds, and what they count (M-105). A unit, how often it created work and processed it.
-pub(crate) const COUNTS: u64 = 14;
-
-// Which round is open (0 for none), round one's total, round two's.
-pub(crate) const ROUND: u64 = 15;
-
-// A unit, 1 if the open round has visited it.
-pub(crate) const MARK: u64 = 16;
-
-// A beginning; and a visit of a unit.
-pub(crate) const BEGIN: u64 = 17;
-
-pub(crate) const VISIT: u64 = 18;
-
-// Any other word is the kind of a step, as a word or as a number; then unit, other, slot.
-pub(crate) const STEP: u64 = 19;
-
-pub(crate) const CASES: [u8; 157] =
-    *b"open\tchain\tdepth\tsizes\tparent\tdebt\tidle unit\tactive unit\twaiting unit\tempty slot\twork slot\treturn slot\trequest slot\tsupply slot\tcounts\tround\tmark\tbegin\tvisit";
+// What a case is, and the numbers that stand behind its word. From Sizes on, but for the last three, a case builds a board directly, or
+// damages one. The debt follows the weights and unit 0's created count the work under way, but for the cases that set them.
+#[derive(Clone, Copy)]
+pub(crate) enum Word {
+    Open, // an opening: M, d, how many parents, the last parent; the other parents are 0
+    Chain, // an opening: M, d, how many parents; each unit's parent is the unit before it
+    Depth, // a question: the unit whose depth is asked for
+    Sizes, // n, M, d
+    Parent, // a unit, its parent
+    Debt, // the debt
+    Unit(State), // a unit, its weight, its countdown, 1 if it is suspended
+    Slot(Kind), // a slot, its from, to and weight
+    Counts, // what the counting rounds count (M-105): a unit, how often it created work and processed it
+    Round, // which round is open (0 for none), round one's total, round two's
+    Mark, // a unit, 1 if the open round has visited it
+    Begin, // a beginning of the rounds
+    Visit, // the unit that is visited
+    Step(u64), // a step's kind; then unit, other, slot
+}
 
 // The kinds of a step, from 1.
-pub(crate) const KINDS: [u8; 49] = *b"start\tsend\trequest\tdeliver\trest\ttick\trelease\tmove";
+const KINDS: [&[u8]; 8] = [
+    b"start", b"send", b"request", b"deliver", b"rest", b"tick", b"release", b"move",
+];
 
-// The place of a word among so many that are parted by tabs; behind the last where it is not among them.
-pub(crate) fn place_of(word: &[u8], words: &[u8], count: usize) -> usize {
-    let mut k = 0;
-    while k < count {
-        if word == field(words, k) {
-            return k;
-        }
-        k += 1;
+// The word of a kind from 1 to 8.
+pub(crate) fn kind_word(kind: u64) -> Option<&'static [u8]> {
+    KINDS.get(kind.wrapping_sub(1) as usize).copied()
+}
+
+// Digits as a number of 64 bits.
+pub(crate) fn number(digits: &[u8]) -> u64 {
+    digits.iter().fold(0u64, |n, digit| {
+        n.wrapping_mul(10)
+            .wrapping_add(u64::from(*digit).wrapping_sub(48))
+    })
+}
+
+// A kind by its word, or by its number.
+fn kind(word: &[u8]) -> u64 {
+    match KINDS.iter().position(|kind| *kind == word) {
+        Some(place) => place as u64 + 1,
+        None => number(word),
     }
-    count
+}
+
+pub(crate) fn word_of(word: &[u8]) -> Word {
+    match word {
+        b"open" => Word::Open,
+        b"chain" => Word::Chain,
+        b"depth" => Word::Depth,
+        b"sizes" => Word::Sizes,
+        b"parent" => Word::Parent,
+        b"debt" => Word::Debt,
+        b"idle unit" => Word::Unit(State::Idle),
+        b"active unit" => Word::Unit(State::Active),
+        b"waiting unit" => Word::Unit(State::Waiting),
+        b"empty slot" => Word::Slot(Kind::Empty),
+        b"work slot" => Word::Slot(Kind::Work),
+        b"return slot" => Word::Slot(Kind::Return),
+        b"request slot" => Word::Slot(Kind::Request),
+        b"supply slot" => Word::Slot(Kind::Supply),
+        b"counts" => Word::Counts,
+        b"round" => Word::Round,
+        b"mark" => Word::Mark,
+        b"begin" => Word::Begin,
+        b"visit" => Word::Visit,
+        _ => Word::Step(kind(word)),
+    }
 }

@@ -1,5 +1,5 @@
 -- A board as a row of entries, each of four numbers.
-use Rattle.std.specs.Prelude.{false, cond, List, [], ◌∷◌, ℕ, ◌-◌, get_or, ltb}
+use Rattle.std.specs.Prelude.{false, cond, List, [], ◌∷◌, ℕ, ◌-◌, get_or, ltb, Option, Some, None}
 use Rattle.rules.specs.Facts.{one_if}
 use Rattle.rules.specs.Records.{blank_unit, blank_slot}
 use Rattle.rules.specs.declared.State.{State}
@@ -9,7 +9,7 @@ use Rattle.rules.specs.declared.Kind.TheVariants.{Empty, Work, Return, Request, 
 use Rattle.rules.specs.declared.UnitRecord.{UnitRecord}
 use Rattle.rules.specs.declared.Slot.{Slot}
 use Rattle.rules.specs.declared.Round.{Round}
-use Rattle.rules.specs.declared.Round.TheVariants.{None, One, Two}
+use Rattle.rules.specs.declared.Round.TheVariants.{One, Two}
 use Rattle.rules.specs.declared.Rounds.{Rounds}
 use Rattle.rules.specs.declared.Board.{Board}
 
@@ -26,10 +26,10 @@ kind_place Return = 2
 kind_place Request = 3
 kind_place Supply = 4
 
-abbrev pub round_place : Round → ℕ
+abbrev pub round_place : Option Round → ℕ
 round_place None = 0
-round_place One = 1
-round_place Two = 2
+round_place (Some One) = 1
+round_place (Some Two) = 2
 
 abbrev pub unit_cells : UnitRecord → List ℕ
 unit_cells x = state_place x.state ∷ x.weight ∷ x.countdown ∷ one_if x.suspended ∷ []

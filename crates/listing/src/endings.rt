@@ -31,11 +31,12 @@ fn take_batch(p: Reached, script: &[u8]) -> Reached
     }
 }
 
-// Batch by batch up to the script's end: a cursor, each batch begins where the one before it ended.
+// Batch by batch up to the script's end.
 fn take_lines(mut p: Reached, script: &[u8]) -> Board
     requires { p.at < length script.now → sound p.board ≡ true }
     ensures { result ≡ board_after p.board (lines_of (drop p.at script.now)) }
 {
+    // The cursor moves by the lines of a batch, so this is no count.
     while p.at < script.len() {
         p = take_batch(p, script);
     }

@@ -6,11 +6,11 @@ ghost use Rattle.listing.specs.Turns.{Gathers};
 
 use numbers::line_at;
 use refusals::Refusal;
-use rules::{BATCH, StepRecord};
+use rules::{BATCH, NO_STEP, StepRecord};
 use script::read_step;
 
-// Lines as step records, what refuses those among them that are no step, and the place behind them. Two arrays, (a): the core takes a batch
-// as an array of step records.
+// Lines as step records, what refuses those among them that are no step, and the place behind them. Two arrays, since the core takes a batch
+// as an array of step records, and fixed ones with a count, since no call allocates.
 // The refusals come first: with the steps before them two copies of the steps were slow for their distance (docs/PERFORMANCE.md, "Copies").
 #[derive(Clone, Copy)]
 pub(crate) struct Gathered {
@@ -20,15 +20,7 @@ pub(crate) struct Gathered {
     pub(crate) at: usize,
 }
 
-// What every board refuses: so a line that is no step leaves the board as it was.
-const NO_STEP: StepRecord = StepRecord {
-    kind: 0,
-    unit: 0,
-    other: 0,
-    slot: 0,
-};
-
-// At most `most` lines from a place on.
+// At most `most` lines from a place on. One that is no step gives a record that every board refuses, so it leaves the board as it was.
 #[tactic(auto, using(numbers::proofs::LineLaws::line_inside, numbers::proofs::LineLaws::line_starts))]
 pub(crate) fn gather(script: &[u8], from: usize, most: usize) -> Gathered
     requires { most ≤ batch_most }

@@ -52,11 +52,12 @@ fn turn(p: Progress, script: &[u8], out: &mut [u8]) -> Progress
     Progress { next, to: w.to }
 }
 
-// As many lines as fit, batch by batch: a cursor, each batch begins where the one before it ended, and one that wrote nothing is the last.
+// As many lines as fit, batch by batch; one that wrote nothing is the last.
 pub(crate) fn list_lines(mut p: Progress, script: &[u8], out: &mut [u8]) -> Progress
     requires { (p.next.at < length script.now → sound p.next.board ≡ true) × (p.to ≤ length out.old) }
     ensures { WritesPieces (suc (length script.now)) p script.now out.old result out.new }
 {
+    // The cursor moves by the lines that a batch wrote, so this is no count.
     while p.next.at < script.len() {
         let to = p.to;
         p = turn(p, script, out);

@@ -8,14 +8,15 @@ use crate::cursors::{beginning, is_ended};
 use crate::parts::list_part;
 use refusals::Refusal;
 
-// How many bytes the listing of a script has. It is listed in parts from cursor to cursor, which are counted and thrown away: large parts,
-// since towards the end of each the batches get small.
+// How many bytes the listing of a script has. It is listed in parts, which are counted and thrown away: large parts, since towards the end of
+// each the batches get small.
 pub fn listing_length(script: &[u8]) -> usize
     ensures { result ≡ length (listing script.now) }
 {
     let mut part = [0u8; 32768];
     let mut c = beginning();
     let mut n = 0;
+    // The cursor moves by the lines that a part has, so this is no count.
     while !is_ended(c, script) {
         let p = list_part(c, script, &mut part);
         n += p.wrote.unwrap_or(0);

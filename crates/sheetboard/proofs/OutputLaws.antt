@@ -11,7 +11,7 @@ use Rattle.std.specs.Io.KnownBytes.{Appends}
 use Rattle.std.specs.declared.option.Option.{Option}
 use Rattle.rules.specs.Facts.{Check, check, test, judge}
 use Rattle.rules.proofs.JudgeLaws.{judge_map}
-use Rattle.placing.specs.declared.Wrote.TheVariants.{Count, Refused}
+use Rattle.std.specs.Prelude.{Ok, Err}
 use Rattle.listing.specs.Scripts.{listing}
 use Rattle.listing.specs.Bounds.{longest_piece, longest_line, ListingBound}
 use Rattle.listing.specs.Parts.{beginning, ended, rest_from, part, part_checks, part_of, part_buffer, call_text, call_next, joined, cursor_after}
@@ -47,7 +47,7 @@ module _ (c : Cursor) (s out : List ℕ) where
   call_count : bytes_of (part_of c s out).wrote ≡ length (call_text c s (length out))
   unfolding part_of
   call_count =
-      judge_map bytes_of Refused (part_checks c s (length out)) (Count (length (part c s (length out)).text))
+      judge_map bytes_of (λ k. Err k) (part_checks c s (length out)) (Ok (length (part c s (length out)).text))
       ∙ sym (judge_map {A = List ℕ} length (λ k. []) (part_checks c s (length out)) (part c s (length out)).text)
 
   call_cursor : (part_of c s out).cursor ≡ call_next c s (length out)

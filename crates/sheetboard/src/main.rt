@@ -9,25 +9,14 @@ ghost use Rattle.std.specs.Prelude.{◌≡◌, ◌+◌, ◌<◌, ◌^◌, length
 ghost use Rattle.std.specs.Io.KnownBytes.{Appends};
 ghost use Rattle.listing.specs.Scripts.{listing};
 ghost use Rattle.listing.specs.Parts.{call_text, call_next};
-ghost use Rattle.listing.specs.Turns.{bytes_of};
 ghost use Rattle.reading.specs.Output.{Arrives};
 ghost use Rattle.sheetboard.specs.Output.{Hands, HandsOver, Lists};
 
 use handing::Output;
 use listing::Cursor;
-use placing::Wrote;
 use reading::{Failure, read_input};
 use std::io;
 use std::io::{Read, Write};
-
-fn count_of(w: Wrote) -> usize
-    ensures { result ≡ bytes_of w }
-{
-    match w {
-        Wrote::Count(n) => n,
-        Wrote::Refused(_) => 0,
-    }
-}
 
 // Lists one part and hands it to the output, from the start of the buffer: the cursor behind it.
 fn write_part<W: Write>(
@@ -42,7 +31,7 @@ fn write_part<W: Write>(
     ensures bytes { OnOk result (Appends (W.contents to.old.writer) (W.contents to.new.writer) (call_text c script.now (length out.old))) }
 {
     let part = listing::list_part(c, script, out);
-    let count = count_of(part.wrote);
+    let count = part.wrote.unwrap_or(0);
     to.hand_over(&out[..count])?;
     Ok(part.cursor)
 }

@@ -1,8 +1,8 @@
 -- The line that the program writes.
-use Rattle.std.specs.Prelude.{List, [], ◌∷◌, ◌++◌, ℕ}
+use Rattle.std.specs.Prelude.{List, [], ◌∷◌, ◌++◌, ℕ, Result, Ok, Err}
+use Rattle.refusals.specs.declared.Refusal.{Refusal}
+use Rattle.refusals.specs.Numbers.{number}
 use Rattle.decimal.specs.Spelling.{spelled}
-use Rattle.drains.specs.declared.Longest.{Longest}
-use Rattle.drains.specs.declared.Longest.TheVariants.{Steps, Refused}
 use Rattle.sheetdrain.specs.Drains.{script_drain}
 
 -- "at most ", " steps more" with the byte that ends the line, "refused by "
@@ -20,9 +20,9 @@ abbrev pub between : List ℕ → ℕ → List ℕ → List ℕ
 between first n last = first ++ (spelled n ++ last)
 
 -- the line for what the length call answers
-abbrev pub line_of : Longest → List ℕ
-line_of (Steps n) = between at_most_text n steps_more_text
-line_of (Refused k) = between refused_by_text k (10 ∷ [])
+abbrev pub line_of : Result ℕ Refusal → List ℕ
+line_of (Ok n) = between at_most_text n steps_more_text
+line_of (Err k) = between refused_by_text (number k) (10 ∷ [])
 
 -- the line for a script
 abbrev pub script_line : List ℕ → List ℕ

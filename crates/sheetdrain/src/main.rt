@@ -10,20 +10,19 @@ ghost use Rattle.reading.specs.Output.{Arrives};
 ghost use Rattle.sheetdrain.specs.Drains.{script_drain};
 ghost use Rattle.sheetdrain.specs.Lines.{script_line};
 
-use drains::{Longest, longest_length};
+use drains::longest_length;
 use listing::ending;
 use reading::{Failure, read_input};
+use refusals::Refusal;
 use std::io;
 use std::io::{Read, Write};
 
 // A script whose first line is refused leaves no board to ask about.
-fn drain_of(script: &[u8]) -> Longest
+fn drain_of(script: &[u8]) -> Result<usize, Refusal>
     ensures { result ≡ script_drain script.now }
 {
     let end = ending(script);
-    if end.answer != 0 {
-        return Longest::Refused(end.answer);
-    }
+    end.answer?;
     longest_length(end.board)
 }
 
@@ -32,8 +31,8 @@ fn tell<W: Write>(to: &mut W, script: &[u8]) -> io::Result<()>
     ensures { OnOk result (Appends (W.contents to.old) (W.contents to.new) (script_line script.now)) }
 {
     match drain_of(script) {
-        Longest::Steps(n) => writeln!(to, "at most {n} steps more"),
-        Longest::Refused(k) => writeln!(to, "refused by {k}"),
+        Ok(n) => writeln!(to, "at most {n} steps more"),
+        Err(refusal) => writeln!(to, "refused by {}", refusal.number()),
     }
 }
 
