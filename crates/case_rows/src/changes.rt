@@ -28,11 +28,11 @@ fn round_word(round: Option<Round>) -> &'static str {
     }
 }
 
-fn parent(to: &impl Print, i: usize, parent: u16) -> io::Result<()> {
+fn parent<P: Print>(to: &P, i: usize, parent: &u16) -> io::Result<()> {
     print!(to; "\n\tparent\t{i}\t{parent}")
 }
 
-fn unit(to: &impl Print, i: usize, x: &UnitRecord) -> io::Result<()> {
+fn unit<P: Print>(to: &P, i: usize, x: &UnitRecord) -> io::Result<()> {
     let suspension = if x.suspended { "suspended" } else { "free" };
     print!(to;
         "\n\tunit\t{i}\t{}\t{}\t{}\t{suspension}",
@@ -42,7 +42,7 @@ fn unit(to: &impl Print, i: usize, x: &UnitRecord) -> io::Result<()> {
     )
 }
 
-fn slot(to: &impl Print, j: usize, y: &Slot) -> io::Result<()> {
+fn slot<P: Print>(to: &P, j: usize, y: &Slot) -> io::Result<()> {
     print!(to;
         "\n\tslot\t{j}\t{}\t{}\t{}\t{}",
         kind_word(y.kind),
@@ -52,45 +52,22 @@ fn slot(to: &impl Print, j: usize, y: &Slot) -> io::Result<()> {
     )
 }
 
-fn rounds(to: &impl Print, a: &Rounds, b: &Rounds) -> io::Result<()> {
-    for (i, (old, new)) in a.visited.iter().zip(&b.visited).enumerate() {
-        if old != new {
-            print!(to; "\n\tmark\t{i}\t{}", u8::from(*new))?;
-        }
-    }
-    if a.round != b.round || a.processed != b.processed || a.created != b.created {
-        print!(to;
-            "\n\tround\t{}\t{}\t{}",
-            round_word(b.round),
-            b.processed,
-            b.created
-        )?;
-    }
-    Ok(())
+fn mark<P: Print>(to: &P, i: usize, marked: &bool) -> io::Result<()> {
+    print!(to; "\n\tmark\t{i}\t{}", u8::from(*marked))
 }
 
-fn parents(to: &impl Print, a: &Board, b: &Board) -> io::Result<()> {
-    for (i, (old, new)) in a.parents.iter().zip(&b.parents).enumerate() {
-        if old != new {
-            parent(to, i, *new)?;
-        }
-    }
-    Ok(())
-}
-
-fn units(to: &impl Print, a: &Board, b: &Board) -> io::Result<()> {
-    for (i, (old, new)) in a.units.iter().zip(&b.units).enumerate() {
-        if old != new {
-            unit(to, i, new)?;
-        }
-    }
-    Ok(())
-}
-
-fn slots(to: &impl Print, a: &Board, b: &Board) -> io::Result<()> {
-    for (j, (old, new)) in a.slots.iter().zip(&b.slots).enumerate() {
-        if old != new {
-            slot(to, j, new)?;
+// Tells each entry of b that is not as in a.
+fn entries<P: Print, T: PartialEq, F: Fn(&P, usize, &T) -> io::Result<()>>(
+    to: &P,
+    a: &[T],
+    b: &[T],
+    tell: F,
+) -> io::Result<()>
+    requires { F.IsAlwaysCallable tell }
+{
+    for (i, (old, new)) in a.iter().zip(b).enumerate() {
+        if *old != *new {
+            tell(to, i, new)?;
         }
     }
     Ok(())
@@ -105,18 +82,31 @@ fn counts(to: &impl Print, a: &Board, b: &Board) -> io::Result<()> {
     Ok(())
 }
 
+fn totals(to: &impl Print, a: &Rounds, b: &Rounds) -> io::Result<()> {
+    if (a.round, a.processed, a.created) == (b.round, b.processed, b.created) {
+        return Ok(());
+    }
+    print!(to;
+        "\n\tround\t{}\t{}\t{}",
+        round_word(b.round),
+        b.processed,
+        b.created
+    )
+}
+
 // Writes how b differs from a, or the word `kept` where it does not. The debt is not written: it stands in the case's line.
-pub(crate) fn tell(to: &impl Print, a: Board, b: Board, kept: &str) -> io::Result<()> {
+pub(crate) fn tell<P: Print>(to: &P, a: Board, b: Board, kept: &str) -> io::Result<()> {
     if a == b {
         return println!(to; "\t{kept}");
     }
     if (a.n, a.m, a.delay) != (b.n, b.m, b.delay) {
         print!(to; "\n\tsizes\t{}\t{}\t{}", b.n, b.m, b.delay)?;
     }
-    parents(to, &a, &b)?;
-    units(to, &a, &b)?;
-    slots(to, &a, &b)?;
+    entries(to, &a.parents, &b.parents, parent)?;
+    entries(to, &a.units, &b.units, unit)?;
+    entries(to, &a.slots, &b.slots, slot)?;
     counts(to, &a, &b)?;
-    rounds(to, &a.rounds, &b.rounds)?;
+    entries(to, &a.rounds.visited, &b.rounds.visited, mark)?;
+    totals(to, &a.rounds, &b.rounds)?;
     println!(to)
 }

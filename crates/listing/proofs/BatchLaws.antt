@@ -1,20 +1,19 @@
 -- A batch of script lines: its lines written one behind the other, the pieces that they are, and its lines as step records.
 use mathlib.Core.Path.{◌≡◌, refl, sym, ap, ◌∙◌}
-use mathlib.Core.Bool.{false, cond}
+use mathlib.Core.Bool.{false}
 use mathlib.Core.List.{List, [], ◌∷◌, ◌++◌}
 use Prim.Native.Nat.{ℕ, zero, suc, ◌-◌, ◌*◌, ◌≤◌, ◌+◌, ◌<◌}
 use native.Mathlib.Omega.{arith}
 use native.Mathlib.Nat.{add-zero, not-suc-le-zero, le_of_suc-le-suc}
-use borrow.Author.Tests.{le-leb, ne_eqb}
+use borrow.Author.Tests.{le-leb}
 use lib.ListN.{length, take, length-append}
-use lib.Dec.{leb, eqb}
+use lib.Dec.{leb}
 use lib.Seq.{sets, length-sets}
-use Rattle.std.specs.Prelude.{Option, Some, None, Result, Ok, Err}
+use Rattle.std.specs.Prelude.{Option, Result, Ok, Err}
 use Rattle.refusals.specs.Numbers.{number_of}
 use Rattle.refusals.specs.declared.Refusal.{Refusal}
 use Rattle.refusals.specs.declared.Refusal.TheVariants.{NoSuchKind}
 use Rattle.rules.specs.Events.{after_all, all_answers}
-use Rattle.rules.specs.Sheets.Finished.{told_from}
 use Rattle.rules.specs.Sound.{Sound}
 use Rattle.rules.specs.Effects.{record_rule}
 use Rattle.rules.specs.Sheets.Sheet.{Outcome as SheetOutcome}
@@ -26,7 +25,6 @@ use Rattle.rules.specs.declared.Board.{Board}
 use Rattle.rules.specs.declared.Action.TheVariants.{Unknown}
 use Rattle.rules.specs.declared.Outcome.{Outcome}
 use Rattle.rules.specs.declared.StepRecord.{StepRecord}
-use Rattle.rules.specs.declared.Verdict.{Verdict}
 use Rattle.rules.specs.Lists.{after, answers}
 use Rattle.rules.specs.Runs.{debts, zeros, padded, batch}
 use Rattle.rules.proofs.Sheets.Changes.{refused_applied}
@@ -38,7 +36,7 @@ use Rattle.steps.specs.NoStep.{no_step}
 use Rattle.fields.proofs.Cases.{by_test}
 use Rattle.numbers.specs.Lines.{behind}
 use Rattle.script.specs.Lines.{reading, step_by}
-use Rattle.texts.specs.Texts.{line_text, board_text}
+use Rattle.texts.specs.Texts.{board_text}
 use Rattle.listing.specs.Scripts.{step_outcome, later_outcome}
 use Rattle.listing.specs.Bounds.{longest_line}
 use Rattle.listing.specs.Parts.{Piece, next_number, later_piece, piece, before, part_within}

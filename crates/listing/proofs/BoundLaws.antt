@@ -6,8 +6,8 @@ use Prim.Native.Nat.{ℕ, zero, suc, ◌+◌, ◌-◌, ◌*◌, ◌≤◌}
 use native.Mathlib.Omega.{arith}
 use lib.ListN.{length, drop, length-append, length-drop}
 use lib.Dec.{leb}
-use borrow.Author.Tests.{eq-eqb, ne_eqb, le-leb, leb-true}
-use Rattle.std.specs.Prelude.{Result, Ok, Err}
+use borrow.Author.Tests.{le-leb, leb-true}
+use Rattle.std.specs.Prelude.{Result}
 use Rattle.refusals.specs.Numbers.{number_of}
 use Rattle.refusals.specs.declared.Refusal.{Refusal}
 use Rattle.rules.specs.declared.Board.{Board}
@@ -15,7 +15,7 @@ use Rattle.rules.specs.declared.Outcome.{Outcome}
 use Rattle.fields.specs.Fields.{past}
 use Rattle.fields.proofs.Cases.{by_cond}
 use Rattle.numbers.specs.Lines.{lines_within, lines_of}
-use Rattle.texts.specs.Texts.{heading, board_text, refused_text}
+use Rattle.texts.specs.Texts.{heading, board_text}
 use Rattle.listing.specs.Scripts.{later_outcome, start_outcome, text_of, text_by, later_lines, opened_lines, opened_text, listing}
 use Rattle.listing.specs.Bounds.{longest_piece, longest_line, further_lines, further_listed, bound_by_lines, ListingBoundByLines, ListingBoundByLength, ListingBound}
 use Rattle.listing.specs.Parts.{opened_piece}

@@ -1,12 +1,12 @@
 -- How long lines are, and what holds of every cursor that the beginning leads to: its board is sound, so no piece is longer than the longest.
-use mathlib.Core.Path.{◌≡◌, refl, sym, ap, subst, ◌∙◌}
-use mathlib.Core.Bool.{true, false}
+use mathlib.Core.Path.{◌≡◌, sym, ap, subst}
+use mathlib.Core.Bool.{false}
 use mathlib.Core.List.{List}
 use Prim.Native.Nat.{ℕ, zero, suc, ◌≤◌, ◌<◌}
 use native.Mathlib.Omega.{arith}
 use lib.ListN.{length, drop, length-append}
 use lib.Dec.{leb}
-use borrow.Author.Tests.{leb-false, ne_eqb}
+use borrow.Author.Tests.{leb-false}
 use Rattle.std.specs.Prelude.{Result, Ok, Err}
 use Rattle.refusals.specs.Numbers.{number, number_of}
 use Rattle.refusals.specs.declared.Refusal.{Refusal}
@@ -18,7 +18,6 @@ use Rattle.rules.specs.declared.Verdict.{Verdict}
 use Rattle.rules.specs.declared.Verdict.TheVariants.{Working, Finished}
 use Rattle.rules.specs.Sound.{Sound}
 use Rattle.rules.specs.Finished.{verdict}
-use Rattle.rules.proofs.FactLaws.{true_not_false}
 use Rattle.refusals.proofs.NumberLaws.{two_digits, answer_short}
 use Rattle.rules.proofs.EventSound.{step_keeps_sound}
 use Rattle.fields.specs.Fields.{up_to}
@@ -49,9 +48,6 @@ word_most (Err k) = omega arith
 pub line_most : (n k debt : ℕ) (v : Result Verdict Refusal) → n ≤ 4294967295 → k < 100 → debt ≤ ceiling → length (line_text n k debt v) ≤ longest_line
 line_most n k debt v p q r =
     omega (arith, line_length n k debt (state_word v), count_bound n 10 (omega arith) (omega arith) (omega arith), count_bound k 2 (omega arith) (omega arith) (omega arith), count_bound debt 13 (omega arith) (omega arith) (omega arith), word_most v)
-
-pub line_some : (n k debt : ℕ) (v : Result Verdict Refusal) → 1 ≤ length (line_text n k debt v)
-line_some n k debt v = omega (arith, line_length n k debt (state_word v))
 
 one_digit : digit_count 0 ≤ 1
 one_digit = count_bound 0 1 (omega arith) (omega arith) (omega arith)

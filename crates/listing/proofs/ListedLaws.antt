@@ -1,6 +1,6 @@
 -- The guarantee of a listing holds: each of its boards is the one that the steps of the script lines so far left, from the opening of the first line on; and what a script leaves is the board of the last line.
 use mathlib.Core.Path.{◌≡◌, refl, sym, ap, subst, ◌∙◌}
-use mathlib.Core.Bool.{Bool, true, false, cond}
+use mathlib.Core.Bool.{true, false}
 use mathlib.Core.List.{List, [], ◌∷◌, ◌++◌, append_assoc, append-nil}
 use Prim.Native.Nat.{ℕ, suc, ◌-◌}
 use native.Mathlib.Numerals.{add-one}
@@ -26,7 +26,7 @@ use Rattle.fields.specs.Fields.{up_to}
 use Rattle.script.specs.Lines.{reading, parents_of, step_by}
 use Rattle.script.specs.declared.Line.{Line as ScriptLine}
 use Rattle.script.specs.declared.Line.TheVariants.{Opens, Asks}
-use Rattle.texts.specs.Texts.{heading, finished_word, state_word, refused_text}
+use Rattle.texts.specs.Texts.{heading, finished_word, state_word}
 use Rattle.listing.specs.Scripts.{first_outcome, step_outcome, later_outcome, start_outcome, Line, text_by, later_lines, listing}
 use Rattle.listing.specs.Listed.{OpenedBy, asked_by, steps_asked, Says, AllSay, later_of, lines_listed, ListingGuarantee}
 use Rattle.listing.specs.Endings.{board_after, end_outcome, EndsAsListed}

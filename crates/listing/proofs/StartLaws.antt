@@ -1,6 +1,6 @@
 -- The first piece by the outcome of the script's first line.
 use mathlib.Core.Path.{◌≡◌, refl, sym, ap, subst, ◌∙◌}
-use mathlib.Core.Bool.{true, false}
+use mathlib.Core.Bool.{true}
 use mathlib.Core.List.{List, ◌++◌}
 use Prim.Native.Nat.{ℕ, ◌≤◌, ◌<◌}
 use native.Mathlib.Omega.{arith}
@@ -31,7 +31,7 @@ use Rattle.listing.specs.Turns.{start_place}
 use Rattle.listing.specs.declared.Cursor.{Cursor}
 use Rattle.listing.specs.declared.Cursor.TheVariants.{Behind}
 
-pub ok_not_err : {k : Refusal} → ◌≡◌ {A = Result (Unit {0}) Refusal} (Ok tt) (Err k) → ⊥
+pub ok_not_err : {A : Type 0} {x : A} {k : Refusal} → ◌≡◌ {A = Result A Refusal} (Ok x) (Err k) → ⊥
 ok_not_err e = cc
 
 -- an answer of number 0 is an accepted one

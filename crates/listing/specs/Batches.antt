@@ -1,6 +1,6 @@
 -- Script lines in batches: so many lines from a place on, and those lines as step records.
 -- For private contracts only; a reader of the claim may skip this.
-use Rattle.std.specs.Prelude.{false, cond, Option, Some, None, Result, Ok, Err, List, [], ◌∷◌, ℕ, zero, suc, length, drop, leb}
+use Rattle.std.specs.Prelude.{false, cond, Option, Result, List, [], ◌∷◌, ℕ, zero, suc, length, drop, leb}
 use Rattle.std.specs.Result.{result_unwrap_or, result_err}
 use Rattle.refusals.specs.declared.Refusal.{Refusal}
 use Rattle.rules.specs.declared.StepRecord.{StepRecord}

@@ -2,6 +2,7 @@
 ghost use Rattle.std.specs.Prelude.{◌≡◌, ◌==◌, count_by};
 ghost use Rattle.listing.specs.Bounds.{further_lines, bound_by_lines};
 
+use crate::MOST_BYTES;
 use crate::turns::LONGEST;
 
 // The heading and the first line are no longer.
@@ -22,10 +23,11 @@ fn further_lines(script: &[u8]) -> usize
 }
 
 // The listing is no longer.
+#[tactic(auto, using(crate::proofs::BoundLaws::further_few), unfolding(crate::specs::Bounds::bound_by_lines))]
 pub(crate) fn bound(script: &[u8]) -> usize
     ensures { result ≡ bound_by_lines script.now }
 {
-    if script.len() > 65535 {
+    if script.len() > MOST_BYTES {
         return FIRST;
     }
     FIRST + LONGEST * further_lines(script)

@@ -19,6 +19,7 @@ struct Reached {
 }
 
 // One batch of lines.
+#[tactic(auto, using(crate::proofs::endings::EndingLaws::batch_reached_lem))]
 fn take_batch(p: Reached, script: &[u8]) -> Reached
     requires { sound p.board ≡ true }
     ensures { result ≡ record { at = place_after batch_most p.at script.now; board = board_after p.board (lines_at batch_most p.at script.now) } }

@@ -21,6 +21,7 @@ pub(crate) struct Gathered {
 }
 
 // At most `most` lines from a place on. One that is no step gives a record that every board refuses, so it leaves the board as it was.
+#[tactic(auto, using(numbers::proofs::LineLaws::line_inside, numbers::proofs::LineLaws::line_starts))]
 pub(crate) fn gather(script: &[u8], from: usize, most: usize) -> Gathered
     requires { most ≤ batch_most }
     ensures { Gathers result (lines_at most from script.now) (place_after most from script.now) }

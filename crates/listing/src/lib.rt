@@ -18,6 +18,9 @@ use refusals::Refusal;
 use rules::Board;
 pub use whole::{list_all, listing_length};
 
+// A longer script is refused.
+pub(crate) const MOST_BYTES: usize = 65535;
+
 // The script line that is next: its place in the script, its number, and the board before it.
 #[derive(Clone, Copy)]
 pub struct NextLine {
@@ -34,7 +37,7 @@ pub enum Cursor {
 }
 
 // One part of a listing: how many bytes were written, or what refused the call, and the cursor behind it.
-// A refused call has a cursor too, the one that it was handed: from there a larger buffer goes on.
+// A refused call has a cursor too, (a): `part_of` of specs/Parts.antt gives the one that it was handed, from where a larger buffer goes on.
 #[derive(Clone, Copy)]
 pub struct Part {
     pub wrote: Result<usize, Refusal>,

@@ -6,7 +6,7 @@ ghost use Rattle.listing.specs.declared.Cursor.TheVariants.{Beginning, Behind};
 
 use crate::starting::{start_outcome, start_place, write_first};
 use crate::turns::{Progress, list_lines};
-use crate::{Cursor, NextLine, Part};
+use crate::{Cursor, MOST_BYTES, NextLine, Part};
 use board::is_sound;
 use refusals::Refusal;
 
@@ -32,7 +32,7 @@ fn list_later(next: NextLine, script: &[u8], out: &mut [u8]) -> Result<Progress,
     if next.at >= script.len() {
         return Ok(start);
     }
-    if script.len() > 65535 {
+    if script.len() > MOST_BYTES {
         return Err(Refusal::ScriptTooLong);
     }
     if !is_sound(next.board) {

@@ -8,6 +8,7 @@ ghost use Rattle.texts.specs.Texts.{heading, board_text};
 ghost use Rattle.listing.specs.Scripts.{first_outcome, start_outcome};
 ghost use Rattle.listing.specs.Turns.{start_place};
 
+use crate::MOST_BYTES;
 use board::{blank, finished, open};
 use numbers::line_at;
 use refusals::{Refusal, number_of};
@@ -39,7 +40,7 @@ fn first_outcome(line: &[u8]) -> Outcome
 pub(crate) fn start_outcome(script: &[u8]) -> Outcome
     ensures { result ≡ start_outcome script.now }
 {
-    if script.len() > 65535 {
+    if script.len() > MOST_BYTES {
         return refused(Refusal::ScriptTooLong);
     }
     if script.is_empty() {

@@ -52,7 +52,7 @@ fn turn(p: Progress, script: &[u8], out: &mut [u8]) -> Progress
     Progress { next, to: w.to }
 }
 
-// As many lines as fit, batch by batch: a batch that wrote nothing is the last.
+// As many lines as fit, batch by batch; one that wrote nothing is the last.
 pub(crate) fn list_lines(mut p: Progress, script: &[u8], out: &mut [u8]) -> Progress
     requires { (p.next.at < length script.now → sound p.next.board ≡ true) × (p.to ≤ length out.old) }
     ensures { WritesPieces (suc (length script.now)) p script.now out.old result out.new }

@@ -26,6 +26,7 @@ pub fn listing_length(script: &[u8]) -> usize
 }
 
 // Whether the listing fits in so many bytes. Its bound costs one pass over the bytes, its length a listing.
+#[tactic(auto, using(crate::proofs::BoundLaws::listing_bound_by_lines), unfolding(crate::specs::Bounds::ListingBoundByLines))]
 fn listing_fits(script: &[u8], room: usize) -> bool
     ensures { result ≡ leb (length (listing script.now)) room }
 {

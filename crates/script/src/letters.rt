@@ -1,4 +1,5 @@
-// The letters of each step, in the order of its script line: how many it has, and a record of their values.
+// The letters of each step, in the order of its script line: how many it has, and a record of their values. By an arm for each, (d): a table of
+// letters as data would have to be gone over in a loop for each use.
 ghost use Rattle.std.specs.Prelude.{◌≡◌, length};
 ghost use Rattle.rules.specs.Actions.{kind_of};
 ghost use Rattle.rules.specs.Letters.{letters};

@@ -34,7 +34,8 @@ impl Line {
     }
 }
 
-// A first line, with the parents of a line that opens a board and zeros behind them; of any other line all are zeros.
+// A first line, with the parents of a line that opens a board and zeros behind them. They stand beside the reading, (a): `board_line` of
+// specs/Lines.antt has zeros for them where a line opens no board.
 #[derive(Clone, Copy)]
 pub struct BoardLine {
     pub reading: Result<Line, Refusal>,

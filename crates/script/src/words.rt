@@ -22,6 +22,7 @@ pub(crate) enum Word {
     Step(Action),
 }
 
+// Where a name stands among some words.
 fn place_among(words: &[&[u8]], name: &[u8]) -> Option<usize>
     ensures { result ≡ position (λ word. bytes_eq name.now word.now) words.now }
 {

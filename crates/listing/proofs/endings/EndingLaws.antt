@@ -5,8 +5,8 @@ use mathlib.Core.List.{List, [], ◌∷◌, ◌++◌}
 use Prim.Native.Nat.{ℕ, zero, suc, ◌-◌, ◌≤◌, ◌<◌}
 use native.Mathlib.Omega.{arith}
 use lib.ListN.{length, take, drop, length-drop, drop_of_length-le}
-use lib.Dec.{leb, eqb}
-use borrow.Author.Tests.{eqb-true, leb-false, lt-leb}
+use lib.Dec.{leb}
+use borrow.Author.Tests.{leb-false, lt-leb}
 use Rattle.std.specs.Prelude.{Result, Ok, Err}
 use Rattle.refusals.specs.declared.Refusal.{Refusal}
 use Rattle.rules.specs.Sound.{Sound, sound}
@@ -16,7 +16,7 @@ use Rattle.rules.specs.declared.Board.{Board}
 use Rattle.rules.specs.declared.Outcome.{Outcome}
 use Rattle.rules.specs.declared.Batch.{Batch}
 use Rattle.fields.specs.Fields.{up_to}
-use Rattle.fields.proofs.Cases.{by_test, by_bool, by_cond}
+use Rattle.fields.proofs.Cases.{by_bool, by_cond}
 use Rattle.numbers.specs.Lines.{lines_within, lines_of, behind}
 use Rattle.numbers.proofs.LineLaws.{behind_drop, lines_past, lines_first}
 use Rattle.script.specs.Lines.{reading, step_by}

@@ -23,15 +23,12 @@ use Rattle.listing.specs.Scripts.{start_outcome}
 use Rattle.listing.specs.Parts.{Piece, ended, first_piece, piece, stops, before, part_within, part, may_be_listed, may_be_led_to, part_of, part_buffer}
 use Rattle.listing.specs.Turns.{start_place, cursor_of, part_by, WritesPieces}
 use Rattle.texts.specs.Texts.{heading, board_text}
-use Rattle.listing.proofs.StartLaws.{start_cursor, start_text, start_next, start_asked}
+use Rattle.listing.proofs.StartLaws.{ok_not_err, start_cursor, start_text, start_next, start_asked}
 use Rattle.listing.proofs.PartLaws.{none, part_stopped, empty_stops, part_then}
 use Rattle.listing.specs.declared.NextLine.{NextLine}
 use Rattle.listing.specs.declared.Cursor.{Cursor}
 use Rattle.listing.specs.declared.Cursor.TheVariants.{Beginning, Behind}
 use Rattle.listing.specs.declared.turns.Progress.{Progress}
-
-ok_not_err : {n : ℕ} {k : Refusal} → ◌≡◌ {A = Result ℕ Refusal} (Ok n) (Err k) → ⊥
-ok_not_err e = cc
 
 err_same : {j k : Refusal} → ◌≡◌ {A = Result ℕ Refusal} (Err j) (Err k) → j ≡ k
 err_same e = cc

@@ -1,12 +1,10 @@
 -- The lines of a batch written turn by turn: those that are left from here give what the whole gives.
-use mathlib.Core.Path.{◌≡◌, refl, sym, ap, subst, ◌∙◌}
-use mathlib.Core.Bool.{cond}
+use mathlib.Core.Path.{◌≡◌, refl, ap, subst}
 use mathlib.Core.List.{List, [], ◌∷◌}
 use mathlib.Core.Logic.{◌⊎◌, inl, inr}
-use Prim.Native.Nat.{ℕ, ◌+◌, ◌≤◌, ◌<◌}
+use Prim.Native.Nat.{ℕ, ◌+◌, ◌≤◌}
 use native.Mathlib.Omega.{arith}
 use lib.ListN.{length}
-use lib.Dec.{eqb}
 use denote.Ref.{Bor}
 use Rattle.std.specs.Prelude.{Option, Some, None}
 use Rattle.refusals.specs.declared.Refusal.{Refusal}
@@ -17,11 +15,8 @@ use Rattle.std.specs.declared.slice.Iter.{Iter}
 use Rattle.std.proofs.iter.Yields.{fronts}
 use Rattle.std.proofs.lemmas.Iterator.{zips}
 use Rattle.std.proofs.lemmas.List.{nil_from_length}
-use Rattle.rules.specs.Sheets.Finished.{told_from}
-use Rattle.rules.specs.declared.Verdict.{Verdict}
 use Rattle.placing.specs.Placing.{wrote, written}
 use Rattle.placing.proofs.WriteLaws.{wrote_fits, wrote_short, fits_or_short}
-use Rattle.texts.specs.Texts.{line_text}
 use Rattle.listing.specs.Parts.{next_number}
 use Rattle.listing.specs.Turns.{bytes_of, row_text, Placed, rows_into}
 

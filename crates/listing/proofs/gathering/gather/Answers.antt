@@ -4,19 +4,10 @@ use mathlib.Core.Bool.{false}
 use mathlib.Core.List.{List}
 use Prim.Native.Nat.{ℕ}
 use native.Mathlib.Omega.{arith}
-use Rattle.numbers.proofs.LineLaws.{line_inside, line_starts, line_part, line_next}
+use Rattle.numbers.proofs.LineLaws.{line_part, line_next}
 use Rattle.script.specs.Lines.{reading, step_by}
 use Rattle.listing.proofs.gathering.GatherLaws.{turn_goes, turn_past, turn_full}
 use Rattle.listing.proofs.gathering.gather.Goals as goal
-
-pub slice_bounds-read_step-count : goal.slice_bounds-read_step-count
-slice_bounds-read_step-count c = line_starts _ _ c.line_at-here.ensures (omega arith)
-
-pub slice_bounds-read_step-start : goal.slice_bounds-read_step-start
-slice_bounds-read_step-start c = line_starts _ _ c.line_at-here.ensures (omega arith)
-
-pub slice_bounds-read_step-end : goal.slice_bounds-read_step-end
-slice_bounds-read_step-end c = line_inside _ _ c.line_at-here.ensures
 
 pub loop-count-preserved : goal.loop-count-preserved
 loop-count-preserved c =

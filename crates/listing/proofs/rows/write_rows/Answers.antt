@@ -3,7 +3,7 @@ use mathlib.Core.Path.{◌≡◌, sym, ap, ◌∙◌}
 use Prim.Native.Nat.{ℕ}
 use native.Mathlib.Omega.{arith}
 use borrow.Author.Rules.{rules}
-use Rattle.std.proofs.Common.{Result, Ok, Option}
+use Rattle.std.proofs.Common.{Ok, Option}
 use Rattle.refusals.specs.declared.Refusal.{Refusal}
 use Rattle.rules.specs.Sheets.Finished.{told_from}
 use Rattle.rules.specs.declared.Verdict.{Verdict}

@@ -1,7 +1,7 @@
 -- In each arm the line says what the arm's case is.
 use mathlib.Core.Path.{◌≡◌, sym, ap, ◌∙◌}
 use native.Mathlib.Omega.{arith}
-use Rattle.std.proofs.Common.{rules, Ok, Err}
+use Rattle.std.proofs.Common.{rules, Ok}
 use Rattle.rules.specs.Opening.{opening}
 use Rattle.script.specs.Lines.{parents_of}
 use Rattle.script.specs.declared.Line.TheVariants.{Opens, Asks}

@@ -21,11 +21,11 @@ use Rattle.listing.proofs.starting.start_outcome.Goals as goal
 first_line : (s : List ℕ) {x : LineAt} → x ≡ line_at 0 s → take x.end s ≡ up_to 10 s
 first_line s {x} e = let all : x.end - 0 ≡ x.end = omega arith in rw all at (line_part 0 s e (omega arith))
 
-pub returns-then-script-gt65535 : goal.returns-then-script-gt65535
-returns-then-script-gt65535 c = c.refused.ensures ∙ sym (start_long c.args.script.now c.if-script-gt65535.true)
+pub returns-then-script-gt-MOST_BYTES : goal.returns-then-script-gt-MOST_BYTES
+returns-then-script-gt-MOST_BYTES c = c.refused.ensures ∙ sym (start_long c.args.script.now c.if-script-gt-MOST_BYTES.true)
 
 pub returns-then-is_empty : goal.returns-then-is_empty
-returns-then-is_empty c = c.refused-then-is_empty.ensures ∙ sym (start_empty c.args.script.now c.if-script-gt65535.false (omega (arith, eqb-true (length c.args.script.now) 0 (sym c.is_empty.ensures ∙ c.if-is_empty.true))))
+returns-then-is_empty c = c.refused-then-is_empty.ensures ∙ sym (start_empty c.args.script.now c.if-script-gt-MOST_BYTES.false (omega (arith, eqb-true (length c.args.script.now) 0 (sym c.is_empty.ensures ∙ c.if-is_empty.true))))
 
 pub slice_bounds-first_outcome-end : goal.slice_bounds-first_outcome-end
 slice_bounds-first_outcome-end c = sym (length-take-le c.line_at.result.end c.args.script.now (line_inside 0 c.args.script.now c.line_at.ensures))
@@ -34,4 +34,4 @@ pub returns : goal.returns
 returns c =
     c.first_outcome.ensures
     ∙ ap (λ (l : List ℕ). first_outcome (parents_of l) (reading true l)) (first_line c.args.script.now c.line_at.ensures)
-    ∙ sym (start_first c.args.script.now c.if-script-gt65535.false (grind (arith, nat_tests)))
+    ∙ sym (start_first c.args.script.now c.if-script-gt-MOST_BYTES.false (grind (arith, nat_tests)))

@@ -15,10 +15,8 @@ use Rattle.rules.specs.Finished.{verdict}
 use Rattle.rules.specs.declared.Board.{Board}
 use Rattle.rules.specs.declared.Verdict.{Verdict}
 use Rattle.texts.specs.Texts.{heading, line_text, board_text}
+use Rattle.listing.proofs.StartLaws.{ok_not_err}
 use Rattle.listing.proofs.starting.write_first.Goals as goal
-
-ok_not_err : {n : ℕ} {k : Refusal} → ◌≡◌ {A = Result ℕ Refusal} (Ok n) (Err k) → ⊥
-ok_not_err e = cc
 
 -- a store in front of a run of stores
 set_before : (out : List ℕ) (i j x : ℕ) (b : List ℕ) → i < j → set (sets out j b) i x ≡ sets (set out i x) j b
