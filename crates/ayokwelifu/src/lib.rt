@@ -17,7 +17,7 @@ pub(crate) fn cell_after(old: u64, wrote: Result<usize, Refusal>) -> u64
     ensures { result ≡ cell_after old wrote }
 {
     match wrote {
-        Ok(n) => n as u64,
+        Ok(n) => n as u64, // std has no conversion by `From`
         Err(_) => old,
     }
 }

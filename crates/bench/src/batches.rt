@@ -28,6 +28,7 @@ fn records_of(numbers: &[u16]) -> [StepRecord; BATCH]
     ensures { take (length numbers.now / 4) result ≡ records_in numbers.now }
 {
     let mut records = [NO_STEP; BATCH];
+    // By place: of what is written through `iter_mut` behind an adapter nothing is known behind the loop.
     for (i, four) in numbers.chunks_exact(4).enumerate() {
         records[i] = record_of(four);
     }

@@ -12,7 +12,7 @@ pub fn some_active(units: [UnitRecord; 64]) -> bool
     units.iter().any(|u| u.state.is_active())
 }
 
-// Whether work is under way in some slot.
+// Whether work is under way in some slot. Two calls with a definition each: one for both would take a closure, and say no more.
 pub fn some_work(slots: [Slot; 256]) -> bool
     ensures { result ≡ some (λ y. is_work y.kind) slots }
 {

@@ -40,6 +40,7 @@ pub(crate) fn counts_fit(b: &Board, work: u64) -> bool
     let mut done: u64 = 0;
     let mut marked_made: u64 = 0;
     let mut marked_done: u64 = 0;
+    // The unit's number is asked too, so a zip of three lists would be no plainer.
     for (i, &marked) in rounds.visited.iter().enumerate() {
         let c = b.created[i];
         let p = b.processed[i];

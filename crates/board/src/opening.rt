@@ -7,7 +7,7 @@ ghost use Rattle.rules.specs.Opening.{lower_parents, opening_checks, blank_board
 use refusals::Refusal;
 use rules::{BLANK_SLOT, BLANK_UNIT, Board, NO_ROUND, Outcome, Rounds};
 
-// No counting round: none is visited, and both totals are 0.
+// No counting round: none is visited, and both totals are 0. A call beside the constant, for callers outside.
 pub fn no_round() -> Rounds
     ensures { result ≡ no_round }
 {
@@ -78,7 +78,7 @@ pub fn open(m: u16, d: u16, parents: &[u16]) -> Outcome
     Outcome {
         answer: Ok(()),
         board: Board {
-            n: parents.len() as u16 + 1,
+            n: parents.len() as u16 + 1, // at most 64, as was tested above
             m,
             delay: d,
             parents: parent_entries(parents),

@@ -38,7 +38,8 @@ fn pending_fits(count: u16, suspended: bool) -> bool
     count == u16::from(suspended)
 }
 
-// Unit i with its parent p, where so many slots are pending for it.
+// Unit i with its parent p, where so many slots are pending for it. Its own values, which nothing else takes together: a struct would name
+// them twice.
 fn entry_fits(u: UnitRecord, p: u16, count: u16, i: usize, n: u16, delay: u16) -> bool
     ensures { result ≡ tests (entry_row n delay i u p count) }
 {
@@ -50,6 +51,7 @@ pub(crate) fn units_fit(b: &Board, slots: &Totals) -> bool
     ensures { result ≡ tests (units_row (view b.now) slots.now.left slots.now.pending) }
 {
     let mut left = slots.left;
+    // The unit's number is asked too, so a zip of three lists would be no plainer.
     for (i, &u) in b.units.iter().enumerate() {
         if !entry_fits(u, b.parents[i], slots.pending[i], i, b.n, b.delay) || u.weight > left {
             return false;

@@ -107,6 +107,7 @@ impl<'a, P: Print> Damages<'a, P> {
 
     fn parents(&mut self) -> io::Result<()> {
         let b = self.base;
+        // The unit's number decides what is tried, and nothing else of it is read.
         for i in 0..64u16 {
             for parent in unit_numbers(i) {
                 let parents = with(b.parents, usize::from(i), parent);

@@ -53,6 +53,7 @@ fn with_slot(mut b: Board, j: u64, y: Slot) -> Board {
     b
 }
 
+// One for each list, since a closure over a list's entry would be longer than the call.
 fn with_parent(mut b: Board, i: u64, parent: u16) -> Board {
     replace(&mut b.parents, i, parent);
     b

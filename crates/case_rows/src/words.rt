@@ -21,7 +21,7 @@ pub(crate) enum Word {
     Step(u64), // a step's kind; then unit, other, slot
 }
 
-// The kinds of a step, from 1.
+// The kinds of a step, from 1. Written again by hand: the cases do not read their words by the table that they test.
 const KINDS: [&[u8]; 8] = [
     b"start", b"send", b"request", b"deliver", b"rest", b"tick", b"release", b"move",
 ];

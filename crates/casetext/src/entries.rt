@@ -49,7 +49,7 @@ fn rounds_entry(b: Board, i: usize) -> [u64; 4]
     marks_entry(b.rounds, i - 64)
 }
 
-// Entry i of a board; behind the last the last again.
+// Entry i of a board; behind the last the last again. By ranges of i, as in the definition: the entries are of five kinds.
 pub fn entry(b: Board, i: usize) -> [u64; 4]
     ensures { result ≡ entry_of b i }
 {

@@ -9,12 +9,13 @@ mod told;
 ghost use Rattle.std.specs.Prelude.{◌≡◌, ◌+◌, ◌≤◌, leb, length};
 ghost use Rattle.std.proofs.lemmas.List.Edits.{sets};
 ghost use Rattle.placing.specs.Placing.{Writes};
-ghost use Rattle.casetext.specs.Rows.{cells_text, cells_row, bytes_put};
+ghost use Rattle.casetext.specs.Rows.{cells_text, cells_row, verdict_text, bytes_put};
 
 use decimal::{digit_count, put_number, put_tabbed_number};
 pub use entries::entry;
 use placing::{put_bytes, room_for};
 use refusals::Refusal;
+use rules::Verdict;
 pub use steps::Step;
 pub use told::Told;
 
@@ -59,6 +60,21 @@ pub fn put_row(first: u64, cells: &[u64], out: &mut [u8], at: usize) -> Result<u
     put_number(first, out, at).unwrap();
     let end = cells_in(cells, out, at + k);
     Ok(end - at)
+}
+
+// What finished tells, at a place. By its own words, since `Told` writes where there is no buffer.
+pub fn put_verdict(
+    told: Result<Verdict, Refusal>,
+    out: &mut [u8],
+    at: usize,
+) -> Result<usize, Refusal>
+    ensures { Writes (verdict_text told) at out.old result out.new }
+{
+    match told {
+        Ok(Verdict::Working) => put_bytes(b"working", out, at),
+        Ok(Verdict::Finished) => put_bytes(b"finished", out, at),
+        Err(k) => put_number(u64::from(k.number()), out, at),
+    }
 }
 
 // The bytes that a writer put at the start of a buffer; none where it was refused.

@@ -23,6 +23,7 @@ impl From<Step> for StepRecord {
     ghost from_gives = { λ step r. r ≡ record_of step };
 
     fn from(step: Step) -> StepRecord {
+        // By number, as the format has them: a kind written wrongly in `Action` would show here.
         let (kind, unit, other, slot) = match step {
             Step::Start(unit) => (1, unit, 0, 0),
             Step::Send(unit, other, slot) => (2, unit, other, slot),

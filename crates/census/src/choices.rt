@@ -15,7 +15,7 @@ const SEVEN_KINDS: [Action; 7] = [
     Action::Release,
 ];
 
-// How many values each field has in a step of a kind: one where the kind does not use it.
+// How many values each field has in a step of a kind: one where the kind does not use it. A step record holds them, as in the definition.
 fn ranges(action: Action, n: u16, m: u16) -> StepRecord
     ensures { result ≡ ranges n m action }
 {
@@ -81,6 +81,7 @@ impl Choices {
         ensures count { self.new.count ≡ self.old.count + range_size ranges }
         ensures steps { take self.new.count self.new.steps ≡ take self.old.count self.old.steps ++ steps_in ranges }
     {
+        // The count is the place, from kind to kind; of an `iter_mut().skip` nothing is known behind the loop.
         for i in 0..ranges.unit * ranges.other * ranges.slot {
             self.steps[self.count] = step_in(ranges, i);
             self.count += 1;

@@ -20,6 +20,7 @@ fn share_of(part: u32, whole: u64) -> u16
         return 0;
     }
     let thousandths = (2000 * u64::from(part) + whole) / (2 * whole);
+    // At most 1,000, so a conversion that may fail would have a branch that nothing takes.
     thousandths as u16
 }
 

@@ -24,6 +24,7 @@ pub(crate) fn sort(b: &Board) -> Ends
             ..NO_ENDS
         };
     }
+    // As `is_busy` of drains asks, which this crate knows nothing of.
     if some_active(b.units) || some_work(b.slots) {
         return Ends { busy: 1, ..NO_ENDS };
     }

@@ -59,7 +59,7 @@ fn spell_in(n: u64, digits: &mut [u8])
     ensures { digits.new ≡ spelled n }
 {
     let mut rest = n;
-    // By place, (c): of what is written through `iter_mut().rev()` nothing is known behind the loop.
+    // By place: of what is written through `iter_mut().rev()` nothing is known behind the loop.
     for i in (0..digits.len()).rev() {
         digits[i] = b'0' + (rest % 10) as u8;
         rest /= 10;
@@ -77,7 +77,8 @@ pub fn put_number(n: u64, out: &mut [u8], at: usize) -> Result<usize, Refusal>
     Ok(k)
 }
 
-// A tab and a number behind it: both are written, or neither.
+// A tab and a number behind it: both are written, or neither. A call of its own: one that takes what stands in front would refuse in two
+// places.
 #[tactic(auto, using(placing::proofs::Stores::put_behind, crate::proofs::SpellLaws::spelled_length, crate::proofs::CountLaws::count_most), unfolding(placing::specs::Placing::wrote, placing::specs::Placing::written))]
 pub fn put_tabbed_number(n: u64, out: &mut [u8], at: usize) -> Result<usize, Refusal>
     ensures { Writes (tab ∷ spelled n) at out.old result out.new }

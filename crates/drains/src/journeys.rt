@@ -33,7 +33,8 @@ pub(crate) fn step(action: Action, unit: u16, slot: u16) -> StepRecord
     }
 }
 
-// One step at a place of the list. Gives the place behind it.
+// One step at a place of the list. Gives the place behind it. List and place stay two parameters here and in what writes on: a cursor type
+// would have to lend the list anew in each call, and its fact, that the rest has room, differs from call to call.
 pub(crate) fn put(step: StepRecord, list: &mut [StepRecord], at: usize) -> usize
     requires { at < length list.old }
     ensures { Writes (step ∷ []) at list.old list.new result }

@@ -19,7 +19,8 @@ use refusals::Refusal;
 use rules::{BATCH, Board, StepRecord};
 pub use short::short_drain;
 
-// A longest drain by value. Entries behind it are 0 and mean nothing, and so are all where none is shown.
+// A longest drain by value. Entries behind it are 0 and mean nothing, and so are all where none is shown. An array with a length, since no
+// call allocates.
 #[derive(Clone, Copy, PartialEq, Eq)]
 pub struct ShortDrain {
     pub longest: Result<usize, Refusal>,

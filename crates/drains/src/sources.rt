@@ -54,6 +54,7 @@ impl Source for UnitRecord {
     fn write_steps(&self, number: usize, way: &Way, list: &mut [StepRecord], at: usize) -> usize {
         match self.state {
             State::Idle | State::Active => at,
+            // `within` says that the number is small: a conversion that may fail would have a branch that nothing takes.
             State::Waiting => way.write_journey(number as u16, self.countdown, list, at),
         }
     }

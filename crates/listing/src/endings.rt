@@ -11,7 +11,8 @@ use crate::starting::{start_outcome, start_place};
 use rules::{BATCH, Board, Outcome};
 use steps::run_batch;
 
-// Where the script's lines have come to: the place of the next one, and the board before it.
+// Where the script's lines have come to: the place of the next one, and the board before it. `NextLine` has a line's number too, which
+// nothing asks here.
 #[derive(Clone, Copy)]
 struct Reached {
     at: usize,

@@ -21,7 +21,7 @@ fn answer_of(refusal: Option<Refusal>, answer: u16) -> u16
     refusal.map_or(answer, Refusal::number)
 }
 
-// Finished is told from the debt of a sound board.
+// Finished is told from the debt of a sound board. `board::finished` would test each line's board again.
 fn state_of(debt: u64) -> Verdict
     ensures { result ≡ told_from debt }
 {

@@ -26,7 +26,8 @@ fn batch_size(room: usize) -> usize
     (room / LONGEST).min(BATCH).max(1)
 }
 
-// One batch of lines. A single line that does not fit leaves everything as it is.
+// One batch of lines. A single line that does not fit leaves everything as it is. The script and the buffer are the caller's, so they stand
+// beside what is moved on.
 fn turn(p: Progress, script: &[u8], out: &mut [u8]) -> Progress
     requires { (sound p.next.board ≡ true) × (p.to ≤ length out.old) }
     ensures { WritesPieces (batch_size (length out.old - p.to)) p script.now out.old result out.new }

@@ -12,7 +12,8 @@ use refusals::Refusal;
 // As many numbers as a line of 255 bytes has room for.
 pub const ROOM: usize = 128;
 
-// The number fields of a line: how many there are, and their values with zeros behind them, or what refuses the line.
+// The number fields of a line: how many there are, and their values with zeros behind them, or what refuses the line. The
+// count stands outside the values, since a refused line has one too, and 23 is asked by it.
 #[derive(Clone, Copy)]
 pub struct Numbers {
     pub count: usize,

@@ -13,6 +13,7 @@ fn numbers_in(fields: &[u8]) -> Numbers
     ensures { result ≡ numbers_of (fields_of fields.now) }
 {
     let mut list = [0; ROOM];
+    // Not by `enumerate`: the count is part of what is given.
     let mut count = 0;
     let mut padded = false;
     let mut refusal = None;

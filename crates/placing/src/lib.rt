@@ -17,7 +17,8 @@ pub fn room_for(n: usize, out: &[u8], at: usize) -> Result<(), Refusal>
     }
 }
 
-// A text at a place of a buffer, or 27 and the buffer as it was.
+// A text at a place of a buffer, or 27 and the buffer as it was. Buffer and place are two parameters in every writer, as in the definition:
+// a refusal says that the whole buffer is as it was.
 #[tactic(auto, using(crate::proofs::Stores::put_part), unfolding(crate::specs::Placing::wrote, crate::specs::Placing::written))]
 pub fn put_bytes(text: &[u8], out: &mut [u8], at: usize) -> Result<usize, Refusal>
     ensures { Writes text.now at out.old result out.new }

@@ -71,6 +71,7 @@ fn closing(k: Rounds) -> Finding
     }
 }
 
+// What the last visit leaves and what it finds: two results of one test, each with its definition.
 fn left_by(k: Rounds, last: bool) -> Rounds
     ensures { result ≡ cond last (closed k k.round) k }
 {

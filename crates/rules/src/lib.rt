@@ -228,6 +228,7 @@ pub struct Shared {
     pub given: u64, // the rules' own term: the share, the weight that it gives away
 }
 
+// Tests by name, since contracts of other crates cite their definitions; each body is the derived equality.
 impl State {
     // Is the unit idle, without work and without weight?
     pub fn is_idle(self) -> bool

@@ -16,6 +16,7 @@ use rules::StepRecord;
 pub use writing::write_step;
 
 // What a line of a script says: a board line with M, d and the number of its parents, or a step.
+// The parents themselves stand beside it in `BoardLine`, as in the definition.
 #[derive(Clone, Copy)]
 pub enum Line {
     Opens(u16, u16, u16),

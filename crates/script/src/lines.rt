@@ -51,6 +51,7 @@ pub fn read_line(line: &[u8], first: bool) -> Result<Line, Refusal>
         return Err(Refusal::WrongFieldCount);
     }
     let values = numbers.values?;
+    // A line of at most 255 bytes has fewer numbers, so their count fits.
     Ok(match word {
         Word::Board => Line::Opens(values[0], values[1], (numbers.count - 2) as u16),
         Word::Step(action) => Line::Asks(record_by(action, [values[0], values[1], values[2]])),

@@ -36,6 +36,7 @@ pub(crate) fn word_of(name: &[u8]) -> Result<Word, Refusal>
     match place_among(&WORDS, name) {
         None => Err(Refusal::UnknownWord),
         Some(0) => Ok(Word::Board),
+        // A place among nine words, so the cast loses nothing.
         Some(kind) => Ok(Word::Step(Action::from(kind as u16))),
     }
 }

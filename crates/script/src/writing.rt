@@ -39,7 +39,8 @@ fn put_letters(r: StepRecord, action: Action, out: &mut [u8], at: usize) -> usiz
     }
 }
 
-// The line at the start of a buffer that has room for any; the answer is its length.
+// The line at the start of a buffer that has room for any; the answer is its length. The action is the record's, known from before: asked
+// again here, it could be `Unknown`.
 fn put_step(r: StepRecord, action: Action, out: &mut [u8]) -> usize
     requires { (action ≡ action_of r.kind) × (is_known action ≡ true) × (longest_step ≤ length out.old) }
     ensures whole { result ≡ length (step_text r) }
@@ -71,6 +72,7 @@ pub fn write_step(r: StepRecord, out: &mut [u8], at: usize) -> Result<usize, Ref
     if action == Action::Unknown {
         return Err(Refusal::NoSuchKind);
     }
+    // Here no length is known yet, so this is no use of `room_for`.
     if at > out.len() {
         return Err(Refusal::NoRoom);
     }

@@ -11,7 +11,8 @@ use crate::places::Places;
 use refusals::Refusal;
 use rules::{Action, Board, Change, NO_ROUND, StepRecord};
 
-// What a step would change, and where.
+// What a step would change, and where. That the board is sound stands in the contracts and not in a type: a type over a lent board would have
+// to hold while `advance` stores into it.
 fn change_on(b: &Board, r: StepRecord) -> (Places, Change)
     requires { sound b.now ≡ true }
     ensures places { (result.0.unit ≤ 63) × (result.0.slot ≤ 255) }

@@ -9,7 +9,8 @@ use board::is_sound;
 use refusals::{Refusal, number_of};
 use rules::{BATCH, Batch, Board, StepRecord};
 
-// The first `count` steps, or all of them where `count` is larger; soundness is tested once for all of them.
+// The first `count` steps, or all of them where `count` is larger; soundness is tested once for all of them. An array with a count, since no
+// call allocates. The loop stands in `run` too: here each turn also has a debt, and one loop for both would need a buffer that `run` has not.
 pub fn run_batch(mut b: Board, steps: [StepRecord; BATCH], count: usize) -> Batch
     ensures value { result ≡ batch b (take count steps) }
     ensures carries { Carries b (taking (batch_steps b (take count steps))) result.board }
@@ -25,6 +26,7 @@ pub fn run_batch(mut b: Board, steps: [StepRecord; BATCH], count: usize) -> Batc
         };
     }
     let mut zeros: usize = 0;
+    // By place: of what is written through `iter_mut` behind an adapter nothing is known behind the loop.
     for (i, r) in steps[..count.min(BATCH)].iter().enumerate() {
         let answer = advance(&mut b, *r);
         answers[i] = number_of(answer);

@@ -64,6 +64,7 @@ fn below(i: u16, limit: u16, by: Refusal) -> Result<(), Refusal>
     Err(by)
 }
 
+// The step and its action go together from here on, since the number in a step is any number and is turned into an action once.
 // The head of each bracket: it refuses the unit, the slot or a move's parent, which is to be below the unit (M-108).
 pub(crate) fn in_use(n: u16, m: u16, r: StepRecord, a: Action) -> Result<(), Refusal>
     ensures { result ≡ judge Err (place_checks n m r a) (Ok tt) }

@@ -12,6 +12,7 @@ impl Found {
     pub(crate) fn effect(self, r: StepRecord, a: Action) -> Result<Effect, Refusal>
         ensures { result ≡ record_rule self.debt self.delay r self.unit self.parent self.slot self.counts.created a }
     {
+        // A plain match: the kinds take different values of the step, so a table would hold closures and say no more.
         match a {
             Action::Unknown => Err(Refusal::NoSuchKind),
             Action::Start => self.start(),

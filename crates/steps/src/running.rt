@@ -18,6 +18,7 @@ pub fn run(b: &mut Board, steps: &[StepRecord], answers: &mut [u16]) -> Result<u
         return Err(Refusal::ShortAnswers);
     }
     let mut zeros: usize = 0;
+    // By place: of what is written through `iter_mut` behind an adapter nothing is known behind the loop.
     for (i, r) in steps.iter().enumerate() {
         let answer = advance(b, *r);
         answers[i] = number_of(answer);
@@ -33,7 +34,8 @@ pub struct RanOn {
     pub board: Board,
 }
 
-// The run by value, over the first `count` of the steps, or all of them where `count` is larger.
+// The run by value, over the first `count` of the steps, or all of them where `count` is larger: an array with a count, since no call
+// allocates.
 pub fn run_list<const N: usize>(
     mut b: Board,
     steps: [StepRecord; N],

@@ -48,7 +48,7 @@ fn line_in(
     Ok(n)
 }
 
-// The line with the word for its state.
+// The line with the word for its state. A call for each word: then each length is known to be at most 8.
 fn state_line(
     number: u64,
     answer: u64,
@@ -65,6 +65,7 @@ fn state_line(
     }
 }
 
+// A line's parts one by one, as the definition of a line takes them.
 // A line of a listing at a place: the rest of the buffer, from that place on, is lent to the line writer.
 pub fn write_line(
     number: u64,
@@ -76,6 +77,7 @@ pub fn write_line(
 ) -> Result<usize, Refusal>
     ensures { Writes (line_text number answer debt state) at out.old result out.new }
 {
+    // Here no length is known yet, so this is no use of `room_for`.
     if at > out.len() {
         return Err(Refusal::NoRoom);
     }
