@@ -30,7 +30,7 @@ fn run<const N: usize>(
     title: &str,
     b: Board,
     steps: [Step; N],
-    count: usize,
+    count: usize, // as the case asks: it may be more than there are
     room: usize,
 ) -> io::Result<Board>
     requires { N ≤ 16 }

@@ -78,7 +78,7 @@ fn round_of(k: u64) -> Option<Round> {
     }
 }
 
-// The parents of a chain: 0, 1, 2 and so on.
+// The parents of a chain: 0, 1, 2 and so on, as many as the list has. An array of which so many count, since no program takes memory.
 fn chain() -> [u16; MOST] {
     let mut list = [0u16; MOST];
     for (parent, i) in list.iter_mut().zip(0u16..320) {

@@ -27,7 +27,7 @@ fn batch_size(room: usize) -> usize
 }
 
 // One batch of lines. A single line that does not fit leaves everything as it is. The script and the buffer are the caller's, so they stand
-// beside what is moved on.
+// beside what is moved on. That the board is sound is said where it is asked: behind a listing's end it may be any.
 fn turn(p: Progress, script: &[u8], out: &mut [u8]) -> Progress
     requires { (sound p.next.board ≡ true) × (p.to ≤ length out.old) }
     ensures { WritesPieces (batch_size (length out.old - p.to)) p script.now out.old result out.new }

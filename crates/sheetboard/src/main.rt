@@ -1,6 +1,6 @@
 // The program: reads a script from standard input, lists it in parts, and hands each part to standard output. Nothing of the rules is decided here.
-// What passes between a process and its files no contract can say. What `list_input` promises it promises of any reader and any writer whose
-// bytes are known, so one line is to be read: the call in `main` that gives it standard input and standard output.
+// What passes between a process and its files no contract can say. What `list_input` promises it promises of any reader, and of any
+// writer behind the count of `Output`, whose bytes are known; so one line is to be read: the call in `main` that gives it standard input and standard output.
 #![tactic(auto)]
 
 mod handing;
