@@ -69,20 +69,14 @@ fn parent_entries(parents: &[u16]) -> [u16; 64]
 pub fn open(m: u16, d: u16, parents: &[u16]) -> Outcome
     ensures { result ≡ opening m d parents.now }
 {
-    if let Err(refusal) = may_open(m, d, parents) {
-        return Outcome {
-            answer: Err(refusal),
-            board: blank(),
-        };
+    let answer = may_open(m, d, parents);
+    // Stored into where it lies: `..blank()` would make a second board and copy it array by array.
+    let mut board = blank();
+    if answer.is_ok() {
+        board.n = parents.len() as u16 + 1; // at most 64, as was tested above
+        board.m = m;
+        board.delay = d;
+        board.parents = parent_entries(parents);
     }
-    Outcome {
-        answer: Ok(()),
-        board: Board {
-            n: parents.len() as u16 + 1, // at most 64, as was tested above
-            m,
-            delay: d,
-            parents: parent_entries(parents),
-            ..blank()
-        },
-    }
+    Outcome { answer, board }
 }

@@ -68,10 +68,10 @@ filled_none b z i ks ds = ap (λ (m : ℕ). record { ran = Ok m; board = b; answ
 filled_end : (rs : List StepRecord) (b : Board) (z i : ℕ) (ks ds : List ℕ) → length rs ≤ i → filled b (drop i rs) z i ks ds ≡ record { ran = Ok z; board = b; answers = ks; debts = ds }
 filled_end rs b z i ks ds l = ap (λ (qs : List StepRecord). filled b qs z i ks ds) (drop_of_length-le rs {i = i} l) ∙ filled_none b z i ks ds
 
--- ---- at the head of each turn of a loop over the steps rs: what is left from here gives the whole, and the board is sound
+-- ---- at the head of each turn of a loop over the steps rs: what is left from here gives the whole, and where a step is left the board is sound
 pub record Turn (whole : Batch) (rs : List StepRecord) (b : Board) (z i : ℕ) (ks ds : List ℕ) : Type 0 where
   pub few : z ≤ i
-  pub is_sound : sound b ≡ true
+  pub is_sound : i < length rs → sound b ≡ true
   pub gives : filled b (drop i rs) z i ks ds ≡ whole
 
 counted : (t : Bool) → from_bool t ≡ one_if t
@@ -90,7 +90,7 @@ module _ (whole : Batch) (rs : List StepRecord) (b : Board) (z i : ℕ) (ks ds :
       let g : n ≡ one_if (eqb (number_of k) 0) = f ∙ ap from_bool (ok_is_zero k) ∙ counted (eqb (number_of k) 0) in
       record {
         few = omega (arith, g, one_at_most (eqb (number_of k) 0), turn.few);
-        is_sound = subst (λ (o : Outcome). sound o.board ≡ true) e (sound_tested _ (step_keeps_sound b (get_or rs i no_step) (sound_claims b turn.is_sound)));
+        is_sound = λ m. subst (λ (o : Outcome). sound o.board ≡ true) e (sound_tested _ (step_keeps_sound b (get_or rs i no_step) (sound_claims b (turn.is_sound l))));
         gives = (λ t. filled c (drop (i + 1) rs) (z + g t) (i + 1) (set ks i (q t)) (set ds i c.debt)) ∙ filled_turn rs b z i ks ds (record { answer = k; board = c }) l e ∙ turn.gives;
       }
 
@@ -143,6 +143,12 @@ filled_batch b rs t l =
 pub unsound_batch : (b : Board) (rs : List StepRecord) → sound b ≡ false → record { ran = Err NotSound; board = b; answers = noughts; debts = noughts } ≡ batch b rs
 unfolding batch
 unsound_batch b rs t = rw t
+
+-- what the loop leaves where no step is taken, since the board is not sound
+pub refused_batch : (b : Board) (rs : List StepRecord) (x : Batch) → sound b ≡ false → x ≡ filled b [] 0 0 noughts noughts
+    → record { ran = Err NotSound; board = x.board; answers = x.answers; debts = x.debts } ≡ batch b rs
+refused_batch b rs x t e =
+    ap (λ (y : Batch). record { ran = Err NotSound; board = y.board; answers = y.answers; debts = y.debts }) (e ∙ filled_none b 0 0 noughts noughts) ∙ unsound_batch b rs t
 
 -- ---- the guarantee
 pub batch_carries : (b : Board) (rs : List StepRecord) (x : Batch) → x ≡ batch b rs → Carries b (taking (batch_steps b rs)) x.board

@@ -5,7 +5,8 @@ use mathlib.Core.List.{List, ◌++◌}
 use Prim.Native.Nat.{ℕ, ◌+◌, ◌≤◌, ◌<◌, ◌^◌, min}
 use native.Mathlib.Omega.{arith}
 use Rattle.refusals.specs.declared.Refusal.{Refusal}
-use Rattle.std.specs.Prelude.{Result, Err, is_ok}
+use Rattle.std.specs.Prelude.{Result, Ok, Err, is_ok}
+use Rattle.std.specs.Result.{result_and}
 use Rattle.rules.specs.Facts.{Claims, Check, judge}
 use Rattle.rules.specs.Records.{full}
 use Rattle.rules.specs.declared.UnitRecord.{UnitRecord}
@@ -39,11 +40,16 @@ use Rattle.steps.specs.declared.places.Places.{Places}
 use Rattle.steps.specs.Changing.{FoundAt, effect_on, counted_up, change_at, stored_on}
 use Rattle.steps.proofs.Clamping.{clamped_step}
 
--- ---- where the places are refused, the effect is
-pub refused_first : (n m debt delay : ℕ) (r : StepRecord) (x : UnitRecord) (p : ℕ) (y : Slot) (made : ℕ) (a : Action) (k : Refusal) → Err k ≡ checks_answer (place_checks n m r a) → Err k ≡ effect_on n m debt delay r x p y made a
-refused_first n m debt delay r x p y made a k e =
+-- ---- the effect, where the places are not refused
+and_answered : {A : Type 0} (placed : Result (Unit {0}) Refusal) (x : Result A Refusal) → result_and placed x ≡ answered (λ k. Err k) x placed
+and_answered (Ok _) x = refl
+and_answered (Err k) x = refl
+
+pub effect_placed : (n m debt delay : ℕ) (r : StepRecord) (x : UnitRecord) (p : ℕ) (y : Slot) (made : ℕ) (a : Action) (placed : Result (Unit {0}) Refusal) → placed ≡ checks_answer (place_checks n m r a)
+    → result_and placed (record_rule debt delay r x p y made a) ≡ effect_on n m debt delay r x p y made a
+effect_placed n m debt delay r x p y made a placed e =
     let rule : Result Effect Refusal = record_rule debt delay r x p y made a in
-    ap (answered (λ j. Err j) rule) e ∙ sym (judge_by_answer (λ j. Err j) (place_checks n m r a) rule)
+    and_answered placed rule ∙ ap (answered (λ k. Err k) rule) e ∙ sym (judge_by_answer (λ k. Err k) (place_checks n m r a) rule)
 
 -- ---- counts: where the whole bracket holds, no full count is to grow
 -- a judged effect changes alike with counts that are the same where its checks hold

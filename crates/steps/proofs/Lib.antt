@@ -1,4 +1,5 @@
 pub mod Clamping
+pub mod KindLaws
 pub mod Changing
 pub mod StepLaws
 pub mod BatchLaws

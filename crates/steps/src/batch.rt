@@ -15,26 +15,25 @@ pub fn run_batch(mut b: Board, steps: [StepRecord; BATCH], count: usize) -> Batc
     ensures value { result ≡ batch b (take count steps) }
     ensures carries { Carries b (taking (batch_steps b (take count steps))) result.board }
 {
+    // One exit: with two, the whole result is cleared and copied once more.
+    let sound = is_sound(b);
+    let most = if sound { count.min(BATCH) } else { 0 };
     let mut answers = [0u16; BATCH];
     let mut debts = [0u64; BATCH];
-    if !is_sound(b) {
-        return Batch {
-            ran: Err(Refusal::NotSound),
-            board: b,
-            answers,
-            debts,
-        };
-    }
     let mut zeros: usize = 0;
     // By place: of what is written through `iter_mut` behind an adapter nothing is known behind the loop.
-    for (i, r) in steps[..count.min(BATCH)].iter().enumerate() {
+    for (i, r) in steps[..most].iter().enumerate() {
         let answer = advance(&mut b, *r);
         answers[i] = number_of(answer);
         debts[i] = b.debt;
         zeros += usize::from(answer.is_ok());
     }
     Batch {
-        ran: Ok(zeros),
+        ran: if sound {
+            Ok(zeros)
+        } else {
+            Err(Refusal::NotSound)
+        },
         board: b,
         answers,
         debts,

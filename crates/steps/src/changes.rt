@@ -9,14 +9,6 @@ use refusals::Refusal;
 use rules::{Action, Change, Counts, Effect, StepRecord};
 
 impl Found {
-    // The effect of a step on a board with n units and m slots.
-    fn effect_on(self, n: u16, m: u16, r: StepRecord, a: Action) -> Result<Effect, Refusal>
-        ensures { result ≡ effect_on n m self.debt self.delay r self.unit self.parent self.slot self.counts.created a }
-    {
-        in_use(n, m, r, a)?;
-        self.effect(r, a)
-    }
-
     // What an effect leaves; the counts of an accepted step are given.
     fn change_of(self, e: Result<Effect, Refusal>, counts: Counts) -> Change
         ensures { result ≡ change_of e self.unit self.parent self.slot self.debt self.counts counts }
@@ -51,6 +43,9 @@ impl Found {
     pub(crate) fn change(self, n: u16, m: u16, r: StepRecord, a: Action) -> Change
         ensures { result ≡ change_at n m self.debt self.delay r self.unit self.parent self.slot self.counts a }
     {
-        self.change_of(self.effect_on(n, m, r, a), self.counted_up(a))
+        // Side by side, so that the compiler parts the actions once for all three.
+        let effect = self.effect(r, a);
+        let counts = self.counted_up(a);
+        self.change_of(in_use(n, m, r, a).and(effect), counts)
     }
 }

@@ -1,6 +1,6 @@
 -- The parents of an opening: whether each is below its unit, and how they are placed one by one among a board's entries.
 use mathlib.Core.Path.{◌≡◌, refl, sym, ap, ◌∙◌}
-use mathlib.Core.Bool.{true, cond, ◌&&◌}
+use mathlib.Core.Bool.{true, false, cond, ◌&&◌}
 use mathlib.Core.List.{List, [], ◌∷◌, ◌++◌}
 use Prim.Native.Nat.{ℕ, zero, suc, ◌+◌, ◌-◌, ◌≤◌, ◌<◌}
 use native.Mathlib.Nat.{le_of_suc-le-suc, not-suc-le-zero}
@@ -11,13 +11,13 @@ use lib.Seq.{take-length}
 use lib.Dec.{eqb, leb}
 use Rattle.rules.specs.declared.Outcome.{Outcome}
 use Rattle.refusals.specs.declared.Refusal.{Refusal}
-use Rattle.std.specs.Prelude.{Ok, Err}
+use Rattle.std.specs.Prelude.{Result, Ok, Err, is_ok}
 use Rattle.std.proofs.lemmas.Bool.Decides.{nat_tests}
 use Rattle.std.proofs.lemmas.List.{drop-replicate}
 use Rattle.std.specs.List.{list_all, enumerate_from}
 use Rattle.rules.specs.Facts.{below, each}
-use Rattle.rules.specs.Opening.{lower_parents, opening_checks, fresh, opening, refused_by}
-use Rattle.rules.proofs.FactLaws.{each_at, each_of, each_claims, each_tested, judge_passed}
+use Rattle.rules.specs.Opening.{lower_parents, opening_checks, fresh, opening, refused_by, blank_board}
+use Rattle.rules.proofs.FactLaws.{true_not_false, each_at, each_of, each_claims, each_tested, judge_passed}
 use Rattle.board.proofs.TestLaws.{not_true_false}
 use Rattle.rules.proofs.JudgeLaws.{checks_answer, answered, judge_by_answer, answer_claims}
 
@@ -50,3 +50,12 @@ unfolding opening
 not_opened m d k ps e =
     let opened : Outcome = record { answer = Ok tt; board = fresh m d ps } in
     judge_by_answer refused_by (opening_checks m d ps) opened ∙ ap (answered refused_by opened) e
+
+-- the same of an answer that is tested for having been accepted
+pub opened : (m d : ℕ) (ps : List ℕ) (r : Result (Unit {0}) Refusal) → checks_answer (opening_checks m d ps) ≡ r → is_ok r ≡ true → opening m d ps ≡ record { answer = r; board = fresh m d ps }
+opened m d ps (Ok tt) e t = opening_accepted m d ps e
+opened m d ps (Err k) e t = absurd (true_not_false (sym t))
+
+pub left_blank : (m d : ℕ) (ps : List ℕ) (r : Result (Unit {0}) Refusal) → checks_answer (opening_checks m d ps) ≡ r → is_ok r ≡ false → opening m d ps ≡ record { answer = r; board = blank_board }
+left_blank m d ps (Ok tt) e t = absurd (true_not_false t)
+left_blank m d ps (Err k) e t = not_opened m d k ps e
