@@ -15,13 +15,13 @@ pub(crate) fn all(to: &impl Print) -> io::Result<()> {
     let mut rows = Rows::under(to, "heads")?;
     edges::all(&mut rows, 0, |out, at| texts::write_heading(out, at))?;
     edges::all(&mut rows, 1, |out, at| {
-        texts::write_line(0, 0, 0, Ok(Verdict::Finished), out, at)
+        texts::write_line(0, 0, 0, Ok::<_, Refusal>(Verdict::Finished), out, at)
     })?;
     edges::all(&mut rows, 2, |out, at| {
-        texts::write_line(10, 41, GRANT, Ok(Verdict::Working), out, at)
+        texts::write_line(10, 41, GRANT, Ok::<_, Refusal>(Verdict::Working), out, at)
     })?;
     edges::all(&mut rows, 3, |out, at| {
-        texts::write_line(65535, 9, MOST, Ok(Verdict::Working), out, at)
+        texts::write_line(65535, 9, MOST, Ok::<_, Refusal>(Verdict::Working), out, at)
     })?;
     edges::all(&mut rows, 4, |out, at| {
         texts::write_line(0, 25, 0, Err(Refusal::BoardLine), out, at)

@@ -47,6 +47,10 @@ pub fn field(line: &[u8], k: usize) -> &[u8]
     ensures place { (result.ref_ptr.0 ≡ line.entry.ref_ptr.0) × (result.ref_ptr.1 ≡ line.entry.ref_ptr.1 + field_start k line.now) }
 {
     let start = field_start(line, k);
+    // Nothing is left of the line: the empty part at its end.
+    if start == line.len() {
+        return &line[start..start];
+    }
     let end = end_from(line, start, TAB);
     &line[start..end]
 }

@@ -42,7 +42,7 @@ answer_of (Some k) j = number k
 
 -- its line, with the debt after it
 abbrev pub row_text : ℕ → Option Refusal → ℕ → ℕ → List ℕ
-row_text n k j debt = line_text n (answer_of k j) debt (Ok (told_from debt))
+row_text n k j debt = line_text {E = Refusal} n (answer_of k j) debt (Ok (told_from debt))
 
 -- the number of the next line, the place behind the last byte, and the buffer
 pub record Placed : Type 0 where

@@ -52,7 +52,7 @@ pub(crate) fn write_rows(
             u64::from(number),
             answer,
             *debt,
-            Ok(state_of(*debt)),
+            Ok::<_, Refusal>(state_of(*debt)),
             out,
             to,
         )

@@ -2,19 +2,18 @@
 use mathlib.Core.Path.{◌≡◌, refl, sym, ap, ◌∙◌}
 use mathlib.Core.Bool.{Bool, true, false, not, cond, ◌&&◌, ◌||◌, and-true, and-false}
 use mathlib.Core.List.{List, [], ◌∷◌, ◌++◌}
-use Prim.Native.Nat.{ℕ, zero, suc, ◌+◌, ◌-◌, ◌≤◌, ◌<◌}
+use Prim.Native.Nat.{ℕ, zero, suc, ◌+◌, ◌≤◌, ◌<◌}
+use native.Mathlib.Numerals.{add-one}
 use native.Mathlib.Omega.{arith}
-use lib.ListN.{length, drop, set, replicate, length-append, length-drop}
+use lib.ListN.{length, take, drop, set, replicate, length-append}
+use Rattle.std.specs.Bool.{then_some}
+use Rattle.std.specs.Option.{option_or}
 use Rattle.std.specs.Prelude.{Option, Some, None, Ok, Err}
 use Rattle.refusals.specs.declared.Refusal.{Refusal}
 use Rattle.refusals.specs.declared.Refusal.TheVariants.{NoNumber, PaddedNumber}
 use Rattle.decimal.specs.Reading.{is_number, value_from, number_of}
 use Rattle.fields.proofs.Cases.{by_bool}
-use Rattle.numbers.specs.Numbers.{all_numbers, has_leading_zero, no_leading_zeros, values, padded, room, refusal_of, unless, fields_of, numbers_of, numbers_at}
-use Rattle.std.specs.List.{slice_range}
-use lib.Seq.{take_all}
-use Rattle.numbers.specs.declared.Numbers.{Numbers}
-use Rattle.numbers.proofs.PlaceLaws.{fields_inside, fields_past_end}
+use Rattle.numbers.specs.Numbers.{all_numbers, has_leading_zero, no_leading_zeros, values, padded, room, refusal_of, unless, fields_at, numbers_at}
 use Rattle.numbers.proofs.NumberLaws.{values_length, padded_none}
 
 -- ---- n entries, with one more value
@@ -46,6 +45,21 @@ module _ (f : List ℕ) where
   unfolding values
   values_more [] = refl
   values_more (g ∷ fs) = ap (λ (vs : List ℕ). value_from 0 g ∷ vs) (values_more fs)
+
+-- ---- the first n fields, where those left begin with f, and where none is left
+next_by : (n : ℕ) (fs : List (List ℕ)) {f : List ℕ} {rest : List (List ℕ)} → drop n fs ≡ f ∷ rest → (take (suc n) fs ≡ take n fs ++ f ∷ []) × (drop (suc n) fs ≡ rest)
+next_by zero [] e = absurd cc
+next_by zero (g ∷ fs) e = (cc, cc)
+next_by (suc n) [] e = absurd cc
+next_by (suc n) (g ∷ fs) e = let more = next_by n fs e in (ap (λ (gs : List (List ℕ)). g ∷ gs) more.0, more.1)
+
+pub next_of : (n : ℕ) (fs : List (List ℕ)) {f : List ℕ} {rest : List (List ℕ)} → drop n fs ≡ f ∷ rest → (take (n + 1) fs ≡ take n fs ++ f ∷ []) × (drop (n + 1) fs ≡ rest)
+next_of n fs e = rw add-one (next_by n fs e)
+
+pub all_of : (n : ℕ) (fs : List (List ℕ)) → drop n fs ≡ [] → take n fs ≡ fs
+all_of zero fs e = sym e
+all_of (suc n) [] e = refl
+all_of (suc n) (g ∷ fs) e = ap (λ (gs : List (List ℕ)). g ∷ gs) (all_of n fs e)
 
 -- ---- at the head of each turn: what is found of the fields so far
 pub record Pass (fs : List (List ℕ)) (list : List ℕ) (count : ℕ) (leading : Bool) (refusal : Option Refusal) : Type 0 where
@@ -106,27 +120,25 @@ module _ {fs : List (List ℕ)} {list : List ℕ} {count : ℕ} {leading : Bool}
   }
 
 -- ---- at the end: a padded number refuses before one that is none
-module _ {fs : List (List ℕ)} {list : List ℕ} {count : ℕ} {leading : Bool} {refusal : Option Refusal} (p : Pass fs list count leading refusal) {gs : List (List ℕ)} (all : fs ≡ gs) where
-  all_refused : cond leading (Some PaddedNumber) refusal ≡ refusal_of fs
-  all_refused = by_bool (λ t. cond t (Some PaddedNumber) refusal ≡ cond (not t) refusal (Some PaddedNumber)) leading (λ q. refl) (λ q. refl) ∙ rw (p.plain, p.refused)
+module _ {fs : List (List ℕ)} {list : List ℕ} {count : ℕ} {leading : Bool} {refusal : Option Refusal} (p : Pass fs list count leading refusal) (from : ℕ) (l : List ℕ) (all : fs ≡ fields_at from l) {t o : Option Refusal} (zeros : t ≡ then_some leading PaddedNumber) (told : o ≡ option_or t refusal) where
+  first_is : o ≡ cond leading (Some PaddedNumber) refusal
+  first_is = told ∙ ap (λ (r : Option Refusal). option_or r refusal) zeros ∙ by_bool (λ b. option_or (then_some b PaddedNumber) refusal ≡ cond b (Some PaddedNumber) refusal) leading (λ q. refl) (λ q. refl)
 
-  numbers_are : (o : Option Refusal) → cond leading (Some PaddedNumber) refusal ≡ o → record { count = count; values = unless o (padded room (values fs)) } ≡ numbers_of gs
-  numbers_are o e = rw (p.counted, ← e, all_refused, all)
+  all_refused : o ≡ refusal_of fs
+  all_refused = first_is ∙ by_bool (λ b. cond b (Some PaddedNumber) refusal ≡ cond (not b) refusal (Some PaddedNumber)) leading (λ q. refl) (λ q. refl) ∙ rw (p.plain, p.refused)
 
-  pub ends_padded : leading ≡ true → record { count = count; values = Err PaddedNumber } ≡ numbers_of gs
-  ends_padded e = numbers_are (Some PaddedNumber) (rw e)
+  numbers_are : record { count = count; values = unless o (padded room (values fs)) } ≡ numbers_at from l
+  unfolding numbers_at
+  numbers_are = rw (p.counted, all_refused, all)
 
-  pub ends_bad : leading ≡ false → {k : Refusal} → refusal ≡ Some k → record { count = count; values = Err k } ≡ numbers_of gs
-  ends_bad e {k} o = numbers_are (Some k) (rw (e, o))
+  none_refused : o ≡ None → refusal ≡ None
+  none_refused e = by_bool (λ b. cond b (Some PaddedNumber) refusal ≡ None → refusal ≡ None) leading (λ q f. absurd cc) (λ q f. f) (sym first_is ∙ e)
 
-  pub ends_good : leading ≡ false → refusal ≡ None → record { count = count; values = Ok list } ≡ numbers_of gs
-  ends_good e o = ap (λ (vs : List ℕ). record { count = count; values = Ok vs }) (p.stored o) ∙ numbers_are None (rw (e, o))
+  pub ends_refused : {k : Refusal} → o ≡ Some k → record { count = count; values = Err k } ≡ numbers_at from l
+  ends_refused {k} e = ap (λ (r : Option Refusal). record { count = count; values = unless r (padded room (values fs)) }) (sym e) ∙ numbers_are
 
--- ---- the fields from a place on
-pub numbers_inside : (at : ℕ) (l m : List ℕ) (n : Numbers) → n ≡ numbers_of (fields_of m) → m ≡ slice_range l at (length l) → at ≤ length l → n ≡ numbers_at at l
-unfolding numbers_at
-numbers_inside at l m n is e h = is ∙ ap numbers_of (ap fields_of (e ∙ take_all (length l - at) (drop at l) (omega (arith, length-drop at l))) ∙ sym (fields_inside at l h))
-
-pub numbers_past_end : (at : ℕ) (l : List ℕ) → length l < at → record { count = 0; values = Ok (replicate room 0) } ≡ numbers_at at l
-unfolding numbers_at
-numbers_past_end at l h = ends_good pass_begins (sym (fields_past_end at l h)) refl refl
+  pub ends_good : o ≡ None → record { count = count; values = Ok list } ≡ numbers_at from l
+  ends_good e =
+      ap (λ (vs : List ℕ). record { count = count; values = Ok vs }) (p.stored (none_refused e))
+      ∙ ap (λ (r : Option Refusal). record { count = count; values = unless r (padded room (values fs)) }) (sym e)
+      ∙ numbers_are

@@ -4,12 +4,10 @@ use mathlib.Core.List.{List, [], ◌∷◌, ◌++◌}
 use Prim.Native.Nat.{ℕ, zero, suc, ◌+◌, ◌-◌, ◌≤◌, ◌<◌}
 use native.Mathlib.Numerals.{add-one}
 use native.Mathlib.Omega.{arith}
-use lib.Dec.{leb, eqb}
+use lib.Dec.{leb}
 use lib.ListN.{length, take, drop, length-append, length-drop}
 use lib.Seq.{drop-drop}
-use borrow.Author.Tests.{le-leb, lt-leb, leb-true, leb-false, eqb-true}
-use Rattle.std.specs.Prelude.{◌==◌, cond}
-use Rattle.std.specs.List.{slice_split, onto_first}
+use borrow.Author.Tests.{le-leb, lt-leb, leb-true, leb-false}
 use Rattle.fields.specs.Fields.{tab, up_to, past, count_of, end_from, field_of, field_start, field_count}
 use Rattle.fields.proofs.PartLaws.{up_to_whole, up_to_joined, past_joined, count_joined, past_drop, past_stands, parted, count_past, up_to_from, end_is}
 use Rattle.fields.proofs.Cases.{by_bool}
@@ -67,18 +65,6 @@ module _ (w : List ℕ) (none : count_of tab w ≡ 0) where
   fields_joined r =
       let l : List ℕ = w ++ tab ∷ r in
       rw (fields_split l, fields_on l (omega (arith, count_joined tab w none r)), past_joined tab w none r, up_to_joined tab w none r)
-
-fields_behind_one : (c : ℕ) (l : List ℕ) → fields_at (suc (length (up_to tab l))) l ≡ fields_at (suc (suc (length (up_to tab l)))) (c ∷ l)
-fields_behind_one c l = fields_dropped 1 (suc (length (up_to tab l))) (c ∷ l) (omega arith) ∙ ap (λ (j : ℕ). fields_at j (c ∷ l)) (omega arith)
-
--- the parts of a line that is cut at its tabs
-pub fields_cut : (l : List ℕ) → slice_split (λ c. c == tab) l ≡ fields_of l
-unfolding up_to count_of
-fields_cut [] = sym (fields_alone [] refl)
-fields_cut (c ∷ l) =
-    by_bool (λ t. cond t ([] ∷ slice_split (λ x. x == tab) l) (onto_first c (slice_split (λ x. x == tab) l)) ≡ fields_of (c ∷ l)) (eqb c tab)
-    (λ q. rw (eqb-true c tab q, fields_cut l) (sym (fields_joined [] refl l)))
-    (λ q. rw (fields_cut l, fields_split l, fields_split (c ∷ l), q) (ap (λ (fs : List (List ℕ)). (c ∷ up_to tab l) ∷ fs) (fields_behind_one c l)))
 
 -- there are as many as are counted
 fields_many : (n i : ℕ) (l : List ℕ) → length (fields_from n i l) ≡ n

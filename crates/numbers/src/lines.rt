@@ -10,7 +10,8 @@ pub fn line_at(text: &[u8], at: usize) -> LineAt
     ensures { result ≡ line_at at text.now }
 {
     let end = end_from(text, at, b'\n');
-    // Behind the byte that ends the line, where there is one.
-    let next = text.len().min(end + 1);
-    LineAt { end, next }
+    if end < text.len() {
+        return LineAt { end, next: end + 1 };
+    }
+    LineAt { end, next: end }
 }

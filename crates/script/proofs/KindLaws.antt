@@ -1,6 +1,7 @@
 -- The kinds 1 to 8, one by one, and every other number; the words by their places.
 use mathlib.Core.Path.{◌≡◌, refl, sym, ap, ◌∙◌}
 use mathlib.Core.Bool.{true, false}
+use mathlib.Core.Logic.{◌⊎◌, inl, inr}
 use mathlib.Core.List.{[], ◌∷◌, List}
 use Prim.Native.Nat.{ℕ, zero, suc, ◌≤◌, ◌<◌}
 use native.Mathlib.Nat.{not-suc-le-zero}
@@ -26,6 +27,12 @@ by_kind P p1 p2 p3 p4 p5 p6 p7 p8 (suc (suc (suc (suc (suc (suc zero)))))) l u =
 by_kind P p1 p2 p3 p4 p5 p6 p7 p8 (suc (suc (suc (suc (suc (suc (suc zero))))))) l u = p7
 by_kind P p1 p2 p3 p4 p5 p6 p7 p8 (suc (suc (suc (suc (suc (suc (suc (suc zero)))))))) l u = p8
 by_kind P p1 p2 p3 p4 p5 p6 p7 p8 (suc (suc (suc (suc (suc (suc (suc (suc (suc k))))))))) l u = absurd (omega arith)
+
+-- a kind that is none of 2, 3, 7 and 8
+pub by_others : (P : ℕ → Type 0) → P 1 → P 4 → P 5 → P 6 → (k : ℕ) → 1 ≤ k → k ≤ kinds → (k ≡ 2 → ⊥) → ((k ≡ 3) ⊎ (k ≡ 7) → ⊥) → (k ≡ 8 → ⊥) → P k
+by_others P p1 p4 p5 p6 =
+    by_kind (λ k. (k ≡ 2 → ⊥) → ((k ≡ 3) ⊎ (k ≡ 7) → ⊥) → (k ≡ 8 → ⊥) → P k) (λ m n o. p1) (λ m n o. absurd (m refl)) (λ m n o. absurd (n (inl refl))) (λ m n o. p4) (λ m n o. p5) (λ m n o. p6)
+    (λ m n o. absurd (n (inr refl))) (λ m n o. absurd (o refl))
 
 pub kind_back : (k : ℕ) → 1 ≤ k → k ≤ kinds → kind_of (action_of k) ≡ k
 kind_back = by_kind (λ k. kind_of (action_of k) ≡ k) refl refl refl refl refl refl refl refl

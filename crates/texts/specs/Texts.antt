@@ -23,7 +23,8 @@ working_word = 119 ∷ 111 ∷ 114 ∷ 107 ∷ 105 ∷ 110 ∷ 103 ∷ []
 abbrev pub refused_word : List ℕ
 refused_word = 114 ∷ 101 ∷ 102 ∷ 117 ∷ 115 ∷ 101 ∷ 100 ∷ []
 
-abbrev pub state_word : Result Verdict Refusal → List ℕ
+-- the cause of a refusal, of any type, is not told
+abbrev pub state_word : {E : Type 0} → Result Verdict E → List ℕ
 state_word (Ok Working) = working_word
 state_word (Ok Finished) = finished_word
 state_word (Err k) = refused_word
@@ -32,7 +33,7 @@ state_word (Err k) = refused_word
 unfoldable pub line_with : ℕ → ℕ → ℕ → List ℕ → List ℕ
 line_with n k debt word = spelled n ++ ((tab ∷ spelled k) ++ ((tab ∷ spelled debt) ++ (tab ∷ word ++ 10 ∷ [])))
 
-abbrev pub line_text : ℕ → ℕ → ℕ → Result Verdict Refusal → List ℕ
+abbrev pub line_text : {E : Type 0} → ℕ → ℕ → ℕ → Result Verdict E → List ℕ
 line_text n k debt v = line_with n k debt (state_word v)
 
 -- a listing line: the board is the one after the script line

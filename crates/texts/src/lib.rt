@@ -48,12 +48,12 @@ fn line_in(
     Ok(n)
 }
 
-// The line with the word for its state. A call for each word: then each length is known to be at most 8.
-fn state_line(
+// The line with the word for its state, which is the same whatever the cause of a refusal. A call for each word: then each length is known to be at most 8.
+fn state_line<E: Copy>(
     number: u64,
     answer: u64,
     debt: u64,
-    state: Result<Verdict, Refusal>,
+    state: Result<Verdict, E>,
     out: &mut [u8],
 ) -> Result<usize, Refusal>
     ensures { Writes (line_text number answer debt state) 0 out.old result out.new }
@@ -67,11 +67,11 @@ fn state_line(
 
 // A line's parts one by one, as the definition of a line takes them.
 // A line of a listing at a place: the rest of the buffer, from that place on, is lent to the line writer.
-pub fn write_line(
+pub fn write_line<E: Copy>(
     number: u64,
     answer: u64,
     debt: u64,
-    state: Result<Verdict, Refusal>,
+    state: Result<Verdict, E>,
     out: &mut [u8],
     at: usize,
 ) -> Result<usize, Refusal>

@@ -5,7 +5,7 @@ use Rattle.placing.proofs.WriteLaws.{refuses, from_rest_start}
 use Rattle.texts.proofs.write_line.Goals as goal
 
 pub returns-then-at-out : goal.returns-then-at-out
-returns-then-at-out c = refuses _ _ _ (omega arith) refl refl
+returns-then-at-out g c = refuses _ _ _ (omega arith) refl refl
 
 pub returns : goal.returns
-returns c = from_rest_start _ _ _ (omega arith) c.state_line.ensures
+returns g c = from_rest_start _ _ _ (omega arith) c.state_line.ensures

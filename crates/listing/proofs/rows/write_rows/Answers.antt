@@ -13,7 +13,7 @@ use Rattle.listing.proofs.rows.RowLaws.{firsts, seconds, thirds, side_more, side
 use Rattle.listing.proofs.rows.write_rows.Goals as goal
 
 -- the line that a turn writes, as it is handed to the writer
-row_said : (n : ℕ) (k : Option Refusal) (j debt : ℕ) {m a b : ℕ} {v : Verdict} → m ≡ n → a ≡ b → b ≡ answer_of k j → v ≡ told_from debt → line_text m a debt (Ok v) ≡ row_text n k j debt
+row_said : (n : ℕ) (k : Option Refusal) (j debt : ℕ) {m a b : ℕ} {v : Verdict} → m ≡ n → a ≡ b → b ≡ answer_of k j → v ≡ told_from debt → line_text {E = Refusal} m a debt (Ok v) ≡ row_text n k j debt
 row_said n k j debt e f g h = rw (e, f, g, h)
 
 pub loop-refusal-init : goal.loop-refusal-init
@@ -25,7 +25,7 @@ loop-refusal-init c =
 
 pub overflow_add-to : goal.overflow_add-to
 overflow_add-to c =
-    omega (arith, c.unwrap_or-to.ensures ∙ ap bytes_of c.write_line.ensures.0, wrote_inside (line_text c.from.result c.from-answer.result c.in-Some.debt.now (Ok c.state_of.result)) c.loop-refusal.to c.loop-refusal.out c.loop-refusal.invariant.inside)
+    omega (arith, c.unwrap_or-to.ensures ∙ ap bytes_of c.write_line.ensures.0, wrote_inside (line_text {E = Refusal} c.from.result c.from-answer.result c.in-Some.debt.now (Ok c.state_of.result)) c.loop-refusal.to c.loop-refusal.out c.loop-refusal.invariant.inside)
 
 pub loop-refusal-preserved : goal.loop-refusal-preserved
 loop-refusal-preserved c =

@@ -1,7 +1,7 @@
 -- `line_at`: the place behind a line is behind its byte 10, and the text's end where it has none.
 use mathlib.Core.Path.{◌≡◌, ap}
 use mathlib.Core.List.{List}
-use Prim.Native.Nat.{ℕ, suc, ◌≤◌, min}
+use Prim.Native.Nat.{ℕ, suc, ◌+◌, ◌≤◌, ◌<◌, min}
 use native.Mathlib.Omega.{arith}
 use borrow.Author.Tests.{leb-true, leb-false}
 use lib.ListN.{length, length-drop, drop_of_length-le}
@@ -30,8 +30,14 @@ module _ (at : ℕ) (s : List ℕ) {e : ℕ} (t : e ≡ end_from 10 at s) where
   line_is : {n : ℕ} → n ≡ min (suc e) (length s) → record { end = e; next = n } ≡ line_at at s
   line_is q = rw (q, behind_is, t)
 
-pub overflow_add-end : goal.overflow_add-end
-overflow_add-end c = omega (arith, c.end_from-end.ensures, end_at_most 10 c.args.at c.args.text.now)
+  line_ended : e < length s → record { end = e; next = e + 1 } ≡ line_at at s
+  line_ended m = line_is (omega (arith, m))
+
+  line_last : length s ≤ e → record { end = e; next = e } ≡ line_at at s
+  line_last m = line_is (omega (arith, m, t, end_at_most 10 at s))
+
+pub returns-then-end-text : goal.returns-then-end-text
+returns-then-end-text c = line_ended _ _ c.end_from-end.ensures c.if-end-text.true
 
 pub returns : goal.returns
-returns c = line_is _ _ c.end_from-end.ensures (omega (arith, c.min-next.ensures))
+returns c = line_last _ _ c.end_from-end.ensures c.if-end-text.false
