@@ -8,7 +8,8 @@ mod lines;
 
 ghost use Rattle.std.specs.Prelude.{◌≡◌, ◌≤◌, length, OnOk};
 ghost use Rattle.std.specs.Io.KnownBytes.{Appends};
-ghost use Rattle.reading.specs.Output.{Arrives};
+ghost use Rattle.reading.specs.Input.{ReadBetween};
+ghost use Rattle.reading.specs.Output.{Arrives, ArrivesCounted, ToldAsRead};
 ghost use Rattle.sheetdrain.specs.Drains.{script_drain};
 ghost use Rattle.sheetdrain.specs.Lines.{Puts, script_line};
 
@@ -48,15 +49,25 @@ fn tell<W: Write>(to: &mut W, script: &[u8]) -> io::Result<()>
     to.write_all(&line[..n])
 }
 
-// Reads a script and tells of it; where a read failed, nothing. The buffer has one byte more than a script may have, so reading stops once it
-// is clear that the script is too long.
+// Tells of the bytes that were read; where a read failed, nothing.
+fn tell_read<W: Write>(to: &mut W, read: io::Result<usize>, buf: &[u8]) -> Result<(), Failure>
+    requires { ReadBetween 0 (length buf.now) read }
+    ensures told { ToldAsRead read result }
+    ensures bytes { ArrivesCounted script_line (W.contents to.old) (W.contents to.new) read buf.now result }
+{
+    let count = read.map_err(Failure::Reading)?;
+    tell(to, &buf[..count]).map_err(Failure::Writing)
+}
+
+// Reads a script and tells of it. The buffer has one byte more than a script may have, so reading stops once it is clear that the script is too
+// long.
 // `sheetboard` has lines like these: one public function for both would take a closure, and a `requires` that it may be called.
 fn tell_input<R: Read, W: Write>(input: &mut R, to: &mut W) -> Result<(), Failure>
     ensures { Arrives script_line (R.remaining input.old) (W.contents to.old) (W.contents to.new) result }
 {
     let mut buf = [0u8; 65536];
-    let count = read_input(input, &mut buf).map_err(Failure::Reading)?;
-    tell(to, &buf[..count]).map_err(Failure::Writing)
+    let read = read_input(input, &mut buf);
+    tell_read(to, read, &buf)
 }
 
 fn main(rt: HostRuntime) {
