@@ -1,10 +1,8 @@
 -- One read behind what was read before, and what the bytes read say of the whole input.
-use Rattle.std.proofs.Common.{◌≡◌, ◌∙◌, sym, ap, subst, ℕ, ◌+◌, ◌<◌, ◌≤◌, None, Some, IfSome, List, ◌++◌, append-nil, length, take, Result, Ok, Err, MatchResult, arith}
+use Rattle.std.proofs.Common.{◌≡◌, ◌∙◌, sym, ap, subst, ℕ, ◌+◌, ◌-◌, ◌<◌, ◌≤◌, None, Some, IfSome, List, ◌++◌, append-nil, length, take, drop, Result, Ok, Err, MatchResult, arith}
 use Rattle.std.proofs.Math.Logic.{⊎_elim}
 use Rattle.std.proofs.Math.Nat.{eq-or-lt_of_le}
-use Rattle.std.proofs.Math.Seq.{length-take-le, take-append-add}
-use Rattle.std.proofs.lemmas.List.{take-append-le}
-use borrow.Rule.Slice.PartMut.{put_mid}
+use Rattle.std.proofs.Math.Seq.{length-take-le, take-add}
 use Rattle.std.proofs.KnownBytes.{Consumes-trans}
 use Rattle.std.specs.Io.KnownBytes.{Consumes}
 use Rattle.std.specs.declared.option.Option.{Option}
@@ -12,14 +10,13 @@ use Rattle.std.specs.declared.io.Error.{Error}
 use Rattle.reading.specs.Input.{ReadBetween, Gives}
 use Rattle.reading.specs.declared.failures.Failure.{Failure}
 
--- what a read put behind the bytes read before, into the rest of the buffer, is the next that the reader had left
-pub reads_on : (a b c : Option (List ℕ)) (at k n : ℕ) (old got : List ℕ) → at ≤ length old → n ≤ length got → Consumes a b (take at old) → Consumes b c (take n got)
-    → Consumes a c (take (at + n) (put_mid at k old got))
-reads_on a b c at k n old got within few before more =
-    let front : at ≡ length (take at old) = sym (length-take-le at old within) in
-    let both : take (at + n) (put_mid at k old got) ≡ take at old ++ take n got =
-    ap (λ (j : ℕ). take (j + n) (put_mid at k old got)) front ∙ take-append-add (take at old) _ n ∙ ap (λ (x : List ℕ). take at old ++ x) (take-append-le n got _ few) in
-    subst (Consumes a c) (sym both) (Consumes-trans a b c (take at old) (take n got) before more)
+-- the bytes read before, which the read kept, and those that it gave behind them are the first that the reader had left
+pub reads_on : (a b c : Option (List ℕ)) (at n : ℕ) (old new : List ℕ) → at ≤ n → take at new ≡ take at old → Consumes a b (take at old) → Consumes b c (take (n - at) (drop at new)) → Consumes a c (take n new)
+reads_on a b c at n old new l kept before more =
+    let there : at + (n - at) ≡ n = omega arith in
+    let both : take n new ≡ take at old ++ take (n - at) (drop at new) =
+    ap (λ (k : ℕ). take k new) (sym there) ∙ take-add at (n - at) new ∙ ap (λ (x : List ℕ). x ++ take (n - at) (drop at new)) kept in
+    subst (Consumes a c) (sym both) (Consumes-trans a b c (take at old) (take (n - at) (drop at new)) before more)
 
 -- Where texts of more than `most` bytes that begin alike are taken alike, what was read into a buffer of one byte more is taken as the whole
 -- input is.

@@ -1,20 +1,21 @@
--- What reaches an output, where the text of the bytes that were read is that of the whole input.
-use Rattle.std.proofs.Common.{◌≡◌, sym, subst, ℕ, List, Result, Ok, Err, MatchResult, IfSome, OnOk}
+-- What reaches an output of the bytes that were read, and so of the whole input, where its text is theirs.
+use Rattle.std.proofs.Common.{◌≡◌, sym, subst, ℕ, ◌+◌, ◌<◌, List, ◌++◌, length, Result, Ok, Err}
 use Rattle.std.proofs.lemmas.Option.{IfSome_then}
-use Rattle.std.specs.Result.{IsErrAnd}
 use Rattle.std.specs.Io.KnownBytes.{Appends}
 use Rattle.std.specs.declared.io.Error.{Error}
 use Rattle.std.specs.declared.option.Option.{Option}
-use Rattle.reading.specs.Output.{Arrives}
+use Rattle.reading.proofs.InputLaws.{reads_enough}
+use Rattle.reading.specs.Input.{ReadBetween, Gives}
+use Rattle.reading.specs.Output.{Arrives, ArrivesCounted, ToldAsRead}
 use Rattle.reading.specs.declared.failures.Failure.{Failure}
-use Rattle.reading.specs.declared.failures.Failure.TheVariants.{Writing}
+use Rattle.reading.specs.declared.failures.Failure.TheVariants.{Reading, Writing}
 
--- a failure of the output, told as one of the program
-abbrev pub ToldAsWriting : Result Unit Error → Result Unit Failure → Type 0
-ToldAsWriting r told = MatchResult r (λ x. told ≡ Ok x) (λ e. IsErrAnd told (λ f. f ≡ Writing e))
-
-pub text_arrives : (text : List ℕ → List ℕ) (input before after : Option (List ℕ)) (read : List ℕ) → IfSome input (λ s. text read ≡ text s) → (r : Result Unit Error) (told : Result Unit Failure)
-    → ToldAsWriting r told → OnOk r (Appends before after (text read)) → Arrives text input before after told
-text_arrives text input before after read whole (Ok x) told e h = subst (Arrives text input before after) (sym e) (IfSome_then input whole (λ s f. subst (Appends before after) f h))
-text_arrives text input before after read whole (Err x) (Ok y) e h = absurd e
-text_arrives text input before after read whole (Err x) (Err y) e h = subst (λ (z : Failure). Arrives text input before after (Err z)) (sym e) tt
+-- what reached the output of a reading, into a buffer of one byte more than what is taken alike, reached it of the input
+pub read_arrives : (text : List ℕ → List ℕ) (most : ℕ) → ((t rest : List ℕ) → most < length t → text (t ++ rest) ≡ text t) → (input rest before after : Option (List ℕ)) (buf : List ℕ)
+    → length buf ≡ most + 1 → (read : Result ℕ Error) (told : Result Unit Failure) → ReadBetween 0 (length buf) read → Gives input rest read buf → ToldAsRead read told
+    → ArrivesCounted text before after read buf told → Arrives text input before after told
+read_arrives text most same input rest before after buf room (Ok n) (Ok x) within given t h =
+    IfSome_then input (reads_enough text most same input rest n buf room within.1 given) (λ s e. subst (Appends before after) e h)
+read_arrives text most same input rest before after buf room (Ok n) (Err (Writing e)) within given t h = tt
+read_arrives text most same input rest before after buf room (Ok n) (Err (Reading e)) within given t h = absurd t
+read_arrives text most same input rest before after buf room (Err e) told within given t h = subst (Arrives text input before after) (sym t) h

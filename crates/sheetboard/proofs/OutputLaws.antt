@@ -6,7 +6,7 @@ use Prim.Native.Nat.{ℕ, zero, suc, ◌+◌, ◌*◌, ◌≤◌, ◌<◌}
 use native.Mathlib.Omega.{arith}
 use lib.ListN.{length, take, drop, replicate, length-append}
 use lib.Seq.{sets-eq, take_at, length-take-le}
-use Rattle.std.proofs.KnownBytes.{Appends-trans}
+use Rattle.std.proofs.KnownBytes.{Appends-nil, Appends-trans}
 use Rattle.std.specs.Io.KnownBytes.{Appends}
 use Rattle.std.specs.declared.option.Option.{Option}
 use Rattle.rules.specs.Facts.{Check, check, test, judge}
@@ -100,9 +100,17 @@ pub record Handing (s : List ℕ) (c : Cursor) (n : ℕ) : Type 0 where
   pub follows : Follows s n
   pub behind : c ≡ cursor_after beginning s (rooms follows.turns)
 
-pub handing_begins : (s : List ℕ) (c : Cursor) → c ≡ beginning → Handing s c 0
+handing_begins : (s : List ℕ) (c : Cursor) → c ≡ beginning → Handing s c 0
 unfolding joined cursor_after joined_follows
 handing_begins s c e = record { counting = counting_begins s c e; follows = joined_follows s 0 0 refl; behind = e }
+
+-- where nothing is counted yet
+module _ (s : List ℕ) {n : ℕ} (none : n ≡ 0) where
+  pub handing_begun : (c : Cursor) → c ≡ beginning → Handing s c n
+  handing_begun c e = subst (Handing s c) (sym none) (handing_begins s c e)
+
+  pub nothing_arrived : (a : Option (List ℕ)) → Appends a a (take n (listing s))
+  nothing_arrived a = subst (λ (k : ℕ). Appends a a (take k (listing s))) (sym none) (Appends-nil a)
 
 -- no listing is too long to be counted
 pub handing_most : {s : List ℕ} {c : Cursor} {n : ℕ} → Handing s c n → n ≤ longest_piece + longest_line * 65534

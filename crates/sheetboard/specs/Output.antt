@@ -1,6 +1,7 @@
 -- What the program hands to its output: the listing, part by part.
 use Rattle.std.specs.Prelude.{◌≡◌, ◌+◌, Bool, true, false, List, ℕ, ◌≤◌, length, take, replicate, Result, Ok, Err, IfSome}
 use Rattle.std.specs.declared.option.Option.{Option}
+use Rattle.std.specs.declared.io.Error.{Error}
 use Rattle.listing.specs.Scripts.{listing}
 use Rattle.listing.specs.Parts.{beginning, call_text, joined}
 use Rattle.listing.specs.declared.Cursor.{Cursor}
@@ -24,7 +25,12 @@ pub record HandsOver (s : List ℕ) (taken : Bool) (count : ℕ) : Type 0 where
   pub follows : Follows s count
   pub all : taken ≡ true → count ≡ length (listing s)
 
--- of an input: the same of the bytes that were read, whose listing is that of the whole input where this is known
+-- of a reading: the same of the bytes of the buffer that it counted; of one that failed, nothing
+abbrev pub ListsCounted : Result ℕ Error → List ℕ → Bool → ℕ → Type 0
+ListsCounted (Ok n) buf taken count = HandsOver (take n buf) taken count
+ListsCounted (Err e) buf taken count = count ≡ 0
+
+-- of an input: the same of some bytes, whose listing is that of the whole input where this is known
 pub record ListsRead (input : Option (List ℕ)) (taken : Bool) (count : ℕ) : Type 0 where
   pub read : List ℕ
   pub whole : IfSome input (λ s. listing read ≡ listing s)

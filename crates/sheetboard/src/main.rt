@@ -9,8 +9,9 @@ ghost use Rattle.std.specs.Prelude.{◌≡◌, ◌+◌, ◌<◌, ◌^◌, length
 ghost use Rattle.std.specs.Io.KnownBytes.{Appends};
 ghost use Rattle.listing.specs.Scripts.{listing};
 ghost use Rattle.listing.specs.Parts.{call_text, call_next};
-ghost use Rattle.reading.specs.Output.{Arrives};
-ghost use Rattle.sheetboard.specs.Output.{Hands, HandsOver, Lists};
+ghost use Rattle.reading.specs.Input.{ReadBetween};
+ghost use Rattle.reading.specs.Output.{Arrives, ArrivesCounted, ToldAsRead};
+ghost use Rattle.sheetboard.specs.Output.{Hands, HandsOver, Lists, ListsCounted};
 
 use handing::Output;
 use listing::Cursor;
@@ -51,8 +52,23 @@ fn list<W: Write>(to: &mut Output<W>, script: &[u8]) -> io::Result<()>
     Ok(())
 }
 
-// Reads a script and lists it; where a read failed, nothing. The buffer has one byte more than a script may have, so reading stops once it is
-// clear that the script is too long.
+// Lists the bytes that were read; where a read failed, nothing.
+fn list_read<W: Write>(
+    to: &mut Output<W>,
+    read: io::Result<usize>,
+    buf: &[u8],
+) -> Result<(), Failure>
+    requires counted { to.old.handed ≡ 0 }
+    requires within { ReadBetween 0 (length buf.now) read }
+    ensures told { ToldAsRead read result }
+    ensures handed { ListsCounted read buf.now (is_ok result) to.new.handed }
+    ensures bytes { ArrivesCounted listing (W.contents to.old.writer) (W.contents to.new.writer) read buf.now result }
+{
+    let count = read.map_err(Failure::Reading)?;
+    list(to, &buf[..count]).map_err(Failure::Writing)
+}
+
+// Reads a script and lists it. The buffer has one byte more than a script may have, so reading stops once it is clear that the script is too long.
 // `sheetdrain` has lines like these: one public function for both would take a closure, and a `requires` that it may be called.
 fn list_input<R: Read, W: Write>(input: &mut R, to: &mut Output<W>) -> Result<(), Failure>
     requires { to.old.handed ≡ 0 }
@@ -60,8 +76,8 @@ fn list_input<R: Read, W: Write>(input: &mut R, to: &mut Output<W>) -> Result<()
     ensures bytes { Arrives listing (R.remaining input.old) (W.contents to.old.writer) (W.contents to.new.writer) result }
 {
     let mut buf = [0u8; 65536];
-    let count = read_input(input, &mut buf).map_err(Failure::Reading)?;
-    list(to, &buf[..count]).map_err(Failure::Writing)
+    let read = read_input(input, &mut buf);
+    list_read(to, read, &buf)
 }
 
 fn main(rt: HostRuntime) {

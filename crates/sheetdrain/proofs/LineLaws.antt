@@ -1,35 +1,43 @@
--- A number is spelled as std writes it, so a line that is written is the line.
-use Rattle.std.proofs.Common.{◌≡◌, ◌∙◌, sym, ap, subst, ℕ, ◌^◌, ◌<◌, List, ◌++◌, true, length, get_or, Result, OnOk, arith, rules}
-use Rattle.std.specs.Fmt.{decimal}
-use Rattle.std.specs.Io.KnownBytes.{Appends}
-use Rattle.std.specs.declared.io.Error.{Error}
-use Rattle.std.specs.declared.option.Option.{Option}
-use Rattle.std.proofs.lemmas.Fmt.{decimal-digits_value}
-use Rattle.std.proofs.lemmas.Str.Parse.{IsNumeralModel, numerals_by_fold}
-use Rattle.rules.proofs.SoundLaws.{below_or_not}
-use Rattle.decimal.specs.Spelling.{spelled}
-use Rattle.decimal.specs.Reading.{all_digits, value_from}
-use Rattle.decimal.proofs.CountLaws.{count_some}
-use Rattle.decimal.proofs.SpellLaws.{spelled_digits, spelled_length}
-use Rattle.decimal.proofs.RoundTrip.{value_spelled, spelled_lead}
-use Rattle.sheetdrain.specs.Lines.{between}
+-- A line's three parts stored one behind the other, how long a line can be, and where it stands.
+use mathlib.Core.Path.{◌≡◌, refl, ap, ◌∙◌}
+use mathlib.Core.List.{List, [], ◌∷◌, ◌++◌, append_assoc}
+use Prim.Native.Nat.{ℕ, ◌+◌, ◌≤◌}
+use native.Mathlib.Omega.{arith}
+use lib.ListN.{length, take, drop, length-append}
+use lib.Seq.{sets, sets-eq, take_at}
+use Rattle.std.specs.Prelude.{Result, Ok, Err}
+use Rattle.refusals.specs.declared.Refusal.{Refusal}
+use Rattle.refusals.specs.Numbers.{number}
+use Rattle.placing.specs.Placing.{written}
+use Rattle.placing.proofs.WriteLaws.{written_fits}
+use Rattle.decimal.specs.Spelling.{spelled, digit_count}
+use Rattle.decimal.proofs.SpellLaws.{spelled_length}
+use Rattle.decimal.proofs.CountLaws.{count_most}
+use Rattle.texts.proofs.TextLaws.{written_then_fits}
+use Rattle.sheetdrain.specs.Lines.{at_most_text, steps_more_text, refused_by_text, between, line_of, Puts}
 
-own : IsNumeralModel (λ ds. all_digits ds ≡ true) (value_from 0)
-unfolding all_digits value_from
-own = numerals_by_fold (λ ds. all_digits ds ≡ true) (search rules) value_from (search rules)
+module _ (first : List ℕ) (n : ℕ) (last : List ℕ) where
+  pub between_length : length (between first n last) ≡ length first + digit_count n + length last
+  between_length = omega (arith, length-append first (spelled n ++ last), length-append (spelled n) last, spelled_length n)
 
--- no leading zero but of 0 itself
-lead_zero : (n : ℕ) → get_or (spelled n) 0 0 ≡ 48 → length (spelled n) ≡ 1
-lead_zero n z = below_or_not 1 (length (spelled n)) (λ many. absurd (omega (arith, z, spelled_lead n many))) (λ few. omega (arith, few, spelled_length n, count_some n))
+  pub between_stored : (line : List ℕ) {from to : ℕ} {one two three : List ℕ} → length (between first n last) ≤ length line → from ≡ length first → to ≡ from + digit_count n
+      → one ≡ written first 0 line → two ≡ written (spelled n) from one → three ≡ written last to two → three ≡ sets line 0 (between first n last)
+  between_stored line {from} {to} l p q a b c =
+      let digits = spelled_length n in
+      let both = length-append first (spelled n) in
+      let all = between_length in
+      written_then_fits (first ++ spelled n) last 0 to line (omega (arith, p, q, digits, both)) (omega (arith, l, p, q, all))
+      (written_then_fits first (spelled n) 0 from line (omega (arith, p)) (omega (arith, l, p, digits, all)) (a ∙ written_fits first 0 line (omega (arith, l, all))) b) c
+      ∙ ap (sets line 0) (append_assoc first (spelled n) last)
 
-decimal_spelled : (n : ℕ) → n < 2 ^ 64 → decimal n ≡ spelled n
-decimal_spelled n h =
-    let value : value_from 0 (spelled n) ≡ n = value_spelled n (omega arith) in
-    let digits : all_digits (spelled n) ≡ true = spelled_digits n (omega arith) in
-    ap decimal (sym value) ∙ decimal-digits_value own (spelled n) digits (omega (arith, spelled_length n, count_some n)) (lead_zero n) (omega (arith, value))
+-- no line is longer
+pub told_line_most : (told : Result ℕ Refusal) → length (line_of told) ≤ 44
+told_line_most (Ok n) = omega (arith, between_length at_most_text n steps_more_text, count_most n)
+told_line_most (Err k) = omega (arith, between_length refused_by_text (number k) (10 ∷ []), count_most (number k))
 
--- a line that was written with its number as std writes it
-pub line_written : (first last : List ℕ) (n : ℕ) {line : List ℕ} (before after : Option (List ℕ)) (r : Result Unit Error) → between first n last ≡ line → n < 2 ^ 64
-    → OnOk r (Appends before after (first ++ (decimal n ++ last))) → OnOk r (Appends before after line)
-line_written first last n {line} before after r e h w =
-    subst (λ (x : List ℕ). OnOk r (Appends before after x)) e (subst (λ (x : List ℕ). OnOk r (Appends before after (first ++ (x ++ last)))) (decimal_spelled n h) w)
+-- what is handed over of a line that fits, the first `r` bytes of the buffer, is the line
+pub line_handed : (text line left : List ℕ) (r : ℕ) → length text ≤ length line → Puts text line r left → take r left ≡ text
+line_handed text line left r l p =
+    let starts : take (length text) (sets line 0 text) ≡ text =
+    rw (sets-eq text line 0 (omega (arith, l))) (take_at text (drop (0 + length text) line) (length text) refl) in
+    ap (λ (k : ℕ). take k left) p.0 ∙ ap (take (length text)) p.1 ∙ starts

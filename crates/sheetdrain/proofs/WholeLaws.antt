@@ -5,7 +5,7 @@ use Rattle.listing.proofs.StartLaws.{start_long}
 use Rattle.sheetdrain.specs.Drains.{script_drain}
 use Rattle.sheetdrain.specs.Lines.{line_of, script_line}
 
-drain_cut : (t rest : List ℕ) → 65535 < length t → script_drain (t ++ rest) ≡ script_drain t
+pub drain_cut : (t rest : List ℕ) → 65535 < length t → script_drain (t ++ rest) ≡ script_drain t
 unfolding script_drain end_outcome
 drain_cut t rest l =
     let long : 65535 < length (t ++ rest) = omega (arith, length-append t rest) in

@@ -1,5 +1,6 @@
--- The line that the program writes.
-use Rattle.std.specs.Prelude.{List, [], ◌∷◌, ◌++◌, ℕ, Result, Ok, Err}
+-- The line that the program writes, at the start of a buffer.
+use Rattle.std.specs.Prelude.{◌≡◌, List, [], ◌∷◌, ◌++◌, ℕ, length, Result, Ok, Err}
+use Rattle.std.proofs.lemmas.List.Edits.{sets}
 use Rattle.refusals.specs.declared.Refusal.{Refusal}
 use Rattle.refusals.specs.Numbers.{number}
 use Rattle.decimal.specs.Spelling.{spelled}
@@ -27,3 +28,7 @@ line_of (Err k) = between refused_by_text (number k) (10 ∷ [])
 -- the line for a script
 abbrev pub script_line : List ℕ → List ℕ
 script_line s = line_of (script_drain s)
+
+-- what a writer of a text promises: r is how many bytes that is, and the buffer is left with them at its start and the rest as it was
+abbrev pub Puts : List ℕ → List ℕ → ℕ → List ℕ → Type 0
+Puts text line r left = (r ≡ length text) × (left ≡ sets line 0 text)

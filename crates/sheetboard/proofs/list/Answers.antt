@@ -5,14 +5,14 @@ use Rattle.std.proofs.KnownBytes.{Appends-nil}
 use Rattle.std.specs.Io.KnownBytes.{Appends}
 use Rattle.listing.specs.Scripts.{listing}
 use Rattle.listing.specs.Parts.{ended}
-use Rattle.sheetboard.proofs.OutputLaws.{handing_begins, handing_ends, handing_goes, handing_follows, handing_most, handing_less, handing_arrives}
+use Rattle.sheetboard.proofs.OutputLaws.{handing_begun, nothing_arrived, handing_ends, handing_goes, handing_follows, handing_most, handing_less, handing_arrives}
 use Rattle.sheetboard.proofs.list.Goals as goal
 
 pub loop-out-init : goal.loop-out-init
 loop-out-init g c = record {
   room = refl;
-  handing = rw c.requires (handing_begins c.args.script.now c.beginning-c.result c.beginning-c.ensures);
-  bytes = rw c.requires (Appends-nil _);
+  handing = handing_begun c.args.script.now (omega (arith, c.requires)) c.beginning-c.result c.beginning-c.ensures;
+  bytes = search (rules, nothing_arrived, Appends-nil);
 }
 
 pub write_part-requires : goal.write_part-requires

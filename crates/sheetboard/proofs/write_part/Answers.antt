@@ -1,5 +1,5 @@
 -- `write_part`: what was listed stands at the start of the buffer, and is what the output is handed.
-use Rattle.std.proofs.Common.{List, ℕ, sym, subst, arith}
+use Rattle.std.proofs.Common.{List, ℕ, ◌≤◌, length, subst, arith}
 use Rattle.std.proofs.Math.Seq.{length-take-le}
 use Rattle.std.specs.Io.KnownBytes.{Appends}
 use Rattle.sheetboard.proofs.OutputLaws.{counted_fits, handed_text, hands, goes_on}
@@ -11,7 +11,9 @@ slice_bounds-hand_over-end g c =
 
 pub slice_bounds-hand_over-end-2 : goal.slice_bounds-hand_over-end-2
 slice_bounds-hand_over-end-2 g c =
-    sym (length-take-le c.unwrap_or-count.result c.list_part-part.new.out (omega (arith, c.list_part-part.auto, counted_fits c.args.c c.args.script.now c.args.out.now c.list_part-part.ensures.0 c.list_part-part.ensures.1 c.unwrap_or-count.ensures)))
+    let fits : c.unwrap_or-count.result ≤ length c.list_part-part.new.out =
+    omega (arith, c.list_part-part.auto, counted_fits c.args.c c.args.script.now c.args.out.now c.list_part-part.ensures.0 c.list_part-part.ensures.1 c.unwrap_or-count.ensures) in
+    omega (arith, length-take-le c.unwrap_or-count.result c.list_part-part.new.out fits)
 
 pub returns-in_err-hand_over-clause-part : goal.returns-in_err-hand_over-clause-part
 returns-in_err-hand_over-clause-part g c =

@@ -1,12 +1,19 @@
--- `tell`: what is written is the line, with its number spelled.
-use Rattle.std.proofs.Common.{◌∙◌, ap, ℕ, [], ◌∷◌, rules}
-use Rattle.sheetdrain.specs.Lines.{between, line_of, at_most_text, steps_more_text, refused_by_text}
-use Rattle.sheetdrain.proofs.LineLaws.{line_written}
+-- `tell`: no line is longer than its buffer, and what the output is handed of it is the line.
+use Rattle.std.proofs.Common.{◌≡◌, sym, List, ℕ, OnOk, subst, arith}
+use Rattle.std.proofs.Math.Seq.{length-take-le}
+use Rattle.std.specs.Io.KnownBytes.{Appends}
+use Rattle.sheetdrain.specs.Drains.{script_drain}
+use Rattle.sheetdrain.specs.Lines.{line_of}
+use Rattle.sheetdrain.proofs.LineLaws.{told_line_most, line_handed}
 use Rattle.sheetdrain.proofs.tell.Goals as goal
 
-pub returns-in-Ok : goal.returns-in-Ok
-returns-in-Ok g c = line_written at_most_text steps_more_text c.in-Ok.n _ _ c.writeln.result (ap line_of c.in-Ok.ensures) (search rules) c.writeln.ensures.bytes
+pub slice_bounds-line-end : goal.slice_bounds-line-end
+slice_bounds-line-end g c = omega (arith, c.put_told-n.ensures.0, told_line_most (script_drain c.args.script.now), c.put_told-n.auto)
 
-pub returns-in-Err : goal.returns-in-Err
-returns-in-Err g c =
-    line_written refused_by_text (10 ∷ []) c.number.result _ _ c.writeln-in-Err.result (ap (λ (n : ℕ). between refused_by_text n (10 ∷ [])) c.number.ensures ∙ ap line_of c.in-Err.ensures) (search rules) c.writeln-in-Err.ensures.bytes
+pub slice_bounds-write_all-end : goal.slice_bounds-write_all-end
+slice_bounds-write_all-end g c = sym (length-take-le _ _ (omega (arith, c.put_told-n.ensures.0, told_line_most (script_drain c.args.script.now), c.put_told-n.auto)))
+
+pub returns : goal.returns
+returns g c =
+    let told : _ ≡ line_of (script_drain c.args.script.now) = line_handed _ _ _ _ (omega (arith, told_line_most (script_drain c.args.script.now))) c.put_told-n.ensures in
+    subst (λ (x : List ℕ). OnOk c.write_all.result (Appends (g.W.Write.contents c.args.to.now) (g.W.Write.contents c.write_all.new.self) x)) told c.write_all.ensures.bytes
