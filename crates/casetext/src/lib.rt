@@ -1,8 +1,9 @@
 // What programs that execute cases write alike: written whole at a place of a buffer, or refused by 27 with the buffer as it was.
-// In `entries` a board as numbers, in `steps` steps by name, in `told` what finished tells.
+// In `entries` a board as numbers, in `steps` steps by name, in `told` what finished tells, in `passing` an output for all cases.
 #![tactic(auto)]
 
 mod entries;
+mod passing;
 mod steps;
 mod told;
 
@@ -13,6 +14,7 @@ ghost use Rattle.casetext.specs.Rows.{cells_text, cells_row, verdict_text, bytes
 
 use decimal::{digit_count, put_number, put_tabbed_number};
 pub use entries::entry;
+pub use passing::PassingOver;
 use placing::{put_bytes, room_for};
 use refusals::Refusal;
 use rules::Verdict;
