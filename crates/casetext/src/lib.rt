@@ -13,7 +13,7 @@ ghost use Rattle.placing.specs.Placing.{Writes};
 ghost use Rattle.casetext.specs.Rows.{cells_text, cells_row, verdict_text, bytes_put};
 
 use decimal::{digit_count, put_number, put_tabbed_number};
-pub use entries::entry;
+pub use entries::{entry, entry_in};
 pub use passing::PassingOver;
 use placing::{put_bytes, room_for};
 use refusals::Refusal;
