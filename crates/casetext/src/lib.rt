@@ -64,18 +64,14 @@ pub fn put_row(first: u64, cells: &[u64], out: &mut [u8], at: usize) -> Result<u
     Ok(end - at)
 }
 
-// What finished tells, at a place. By its own words, since `Told` writes where there is no buffer.
-pub fn put_verdict(
-    told: Result<Verdict, Refusal>,
-    out: &mut [u8],
-    at: usize,
-) -> Result<usize, Refusal>
+// What finished tells, or the number that refuses, at a place. By its own words, since `Told` writes where there is no buffer.
+pub fn put_verdict(told: Result<Verdict, u16>, out: &mut [u8], at: usize) -> Result<usize, Refusal>
     ensures { Writes (verdict_text told) at out.old result out.new }
 {
     match told {
         Ok(Verdict::Working) => put_bytes(b"working", out, at),
         Ok(Verdict::Finished) => put_bytes(b"finished", out, at),
-        Err(k) => put_number(u64::from(k.number()), out, at),
+        Err(k) => put_number(u64::from(k), out, at),
     }
 }
 
