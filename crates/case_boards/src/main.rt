@@ -7,6 +7,7 @@ mod limits;
 mod rows;
 mod weights;
 
+use casetext::PassingOver;
 use damages::Damages;
 use std::io;
 
@@ -30,6 +31,6 @@ fn all(to: &impl Print) -> io::Result<()> {
 }
 
 fn main(rt: HostRuntime) {
-    // Where the output takes no more, there is nobody left to tell.
-    let _ = all(&rt);
+    // What cannot be written is passed over, so this ends in no error.
+    let _ = all(&PassingOver(&rt));
 }

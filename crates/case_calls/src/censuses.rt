@@ -22,14 +22,19 @@ fn row<P: Print>(
     length: u16,
 ) -> io::Result<()> {
     let counted = census::census(m, d, parents, length);
-    let refusal = number_of(counted);
     let ends = counted.unwrap_or(NONE);
-    let count = parents.len();
-    let first = parents.first().copied().unwrap_or(0);
-    let second = parents.get(1).copied().unwrap_or(0);
-    rows.begin()?;
-    print!(rows.to; "\t{m}\t{d}\t{count}\t{first}\t{second}\t{length}\t{refusal}")?;
-    println!(rows.to; "\t{}\t{}\t{}", ends.finished, ends.busy, ends.other)
+    rows.row(&[
+        u64::from(m),
+        u64::from(d),
+        parents.len() as u64,
+        u64::from(parents.first().copied().unwrap_or(0)),
+        u64::from(parents.get(1).copied().unwrap_or(0)),
+        u64::from(length),
+        u64::from(number_of(counted)),
+        u64::from(ends.finished),
+        u64::from(ends.busy),
+        u64::from(ends.other),
+    ])
 }
 
 fn sizes<P: Print>(rows: &mut Rows<'_, P>) -> io::Result<()> {

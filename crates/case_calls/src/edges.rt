@@ -31,13 +31,14 @@ fn row<P: Print, F: Fn(&mut [u8], usize) -> Result<usize, Refusal>>(
     let mut buffer = [b'.'; BYTES];
     let lent = room.min(BYTES);
     let wrote = write(&mut buffer[..lent], at);
-    let refusal = number_of(wrote);
-    let count = wrote.unwrap_or(0);
-    rows.begin()?;
-    println!(rows.to;
-        "\t{name}\t{lent}\t{at}\t{refusal}\t{count}\t{}",
-        checksum(buffer)
-    )
+    rows.row(&[
+        u64::from(name),
+        lent as u64,
+        at as u64,
+        u64::from(number_of(wrote)),
+        wrote.unwrap_or(0) as u64,
+        checksum(buffer),
+    ])
 }
 
 // Five rooms about as large as the text, with each of them five places. A text that is refused whatever the room counts as one byte.

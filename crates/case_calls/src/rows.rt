@@ -1,10 +1,14 @@
 // The rows of a table, under its title: each begins with its number.
+use casetext::{bytes_put, put_row};
 use std::io;
+
+// The most bytes that a row has.
+const MOST: usize = 256;
 
 #[derive(Drop)]
 pub(crate) struct Rows<'a, P> {
-    pub(crate) to: &'a P,
-    next: usize,
+    to: &'a P,
+    next: u64,
 }
 
 impl<'a, P: Print> Rows<'a, P> {
@@ -13,10 +17,11 @@ impl<'a, P: Print> Rows<'a, P> {
         Ok(Rows { to, next: 0 })
     }
 
-    // Writes the number of the next row.
-    pub(crate) fn begin(&mut self) -> io::Result<()> {
-        print!(self.to; "{}", self.next)?;
+    // Writes the next row by one call, so that none is left half written.
+    pub(crate) fn row(&mut self, cells: &[u64]) -> io::Result<()> {
+        let mut line = [0u8; MOST];
+        let wrote = put_row(self.next, cells, &mut line, 0);
         self.next = self.next.wrapping_add(1);
-        Ok(())
+        self.to.write_all(bytes_put(wrote, &line))
     }
 }

@@ -2,7 +2,7 @@
 use crate::rows::Rows;
 use casetext::Step;
 use refusals::number_of;
-use rules::{Board, StepRecord};
+use rules::{Board, NO_STEP, StepRecord};
 use std::io;
 
 const STEPS: [Step; 4] = [
@@ -12,21 +12,35 @@ const STEPS: [Step; 4] = [
     Step::Unknown(65535), // 16
 ];
 
+// The four steps; those behind them are not run.
+fn list() -> [StepRecord; 16] {
+    let mut list = [NO_STEP; 16];
+    for (record, step) in list.iter_mut().zip(STEPS) {
+        *record = step.into();
+    }
+    list
+}
+
 // What was asked, the refusal and the zeros that the run gives, of which the one that there is not is 0, what the whole buffer holds after
 // it, and the debt.
 fn row<P: Print>(rows: &mut Rows<'_, P>, b: Board, count: usize, room: usize) -> io::Result<()> {
     let mut buffer = [99u16; 5];
     let lent = room.min(5);
-    let after = steps::run_list(b, STEPS.map(StepRecord::from), count, &mut buffer[..lent]);
-    let sound = u8::from(board::is_sound(b));
-    let refusal = number_of(after.ran);
-    let zeros = after.ran.unwrap_or(0);
-    rows.begin()?;
-    print!(rows.to; "\t{sound}\t{count}\t{lent}\t{refusal}\t{zeros}")?;
-    for answer in buffer {
-        print!(rows.to; "\t{answer}")?;
-    }
-    println!(rows.to; "\t{}", after.board.debt)
+    let after = steps::run_list(b, list(), count, &mut buffer[..lent]);
+    let [first, second, third, fourth, fifth] = buffer.map(u64::from);
+    rows.row(&[
+        u64::from(board::is_sound(b)),
+        count as u64,
+        lent as u64,
+        u64::from(number_of(after.ran)),
+        after.ran.unwrap_or(0) as u64,
+        first,
+        second,
+        third,
+        fourth,
+        fifth,
+        after.board.debt,
+    ])
 }
 
 // A fresh board, and the same with a debt that nothing holds; on each five lengths of the list, with each of them six of the buffer.

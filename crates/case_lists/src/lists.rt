@@ -1,5 +1,15 @@
 // Lists of steps for runs.
 use casetext::Step;
+use rules::StepRecord;
+
+// A list of 16: the steps, and behind them starts that are not to be run.
+pub(crate) fn list_of(steps: &[Step]) -> [StepRecord; 16] {
+    let mut list = [StepRecord::from(Step::Start(0)); 16];
+    for (record, step) in list.iter_mut().zip(steps) {
+        *record = (*step).into();
+    }
+    list
+}
 
 pub(crate) const WHOLE_CASE: [Step; 9] = [
     Step::Start(0),

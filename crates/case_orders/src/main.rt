@@ -6,11 +6,12 @@ mod lines;
 mod pairs;
 mod same;
 
+use casetext::PassingOver;
 use reading::read_full;
 
 fn main(rt: HostRuntime) {
     let mut input = [0u8; 65536];
     let n = read_full(&mut rt.stdin(), &mut input);
-    // Where the output takes no more, there is nobody left to tell.
-    let _ = lines::all(&rt, &input[..n]);
+    // What cannot be written is passed over, so this ends in no error.
+    let _ = lines::all(&PassingOver(&rt), &input[..n]);
 }

@@ -1,112 +1,69 @@
 // How a board differs from another: a line for each entry that does.
-use rules::{Board, Kind, Round, Rounds, Slot, State, UnitRecord};
+use casetext::entry_in;
+use rules::Board;
 use std::io;
 
-fn state_word(state: State) -> &'static str {
-    match state {
-        State::Idle => "idle",
-        State::Active => "active",
-        State::Waiting => "waiting",
+// 64 parents, 64 units, 256 slots, 64 counts, 64 marks, and the open round.
+const ENTRIES: usize = 513;
+
+const STATES: [&str; 3] = ["idle", "active", "waiting"];
+
+const KINDS: [&str; 5] = ["empty", "work", "return", "request", "supply"];
+
+const SUSPENSIONS: [&str; 2] = ["free", "suspended"];
+
+const ROUNDS: [&str; 3] = ["none", "one", "two"];
+
+// The word that stands for a number of an entry.
+fn word(words: &'static [&'static str], place: u64) -> &'static str {
+    words.get(place as usize).copied().unwrap_or("")
+}
+
+fn unit(to: &impl Print, i: usize, entry: [u64; 4]) -> io::Result<()> {
+    let [state, weight, countdown, suspended] = entry;
+    let state = word(&STATES, state);
+    let suspension = word(&SUSPENSIONS, suspended);
+    print!(to; "\n\tunit\t{i}\t{state}\t{weight}\t{countdown}\t{suspension}")
+}
+
+fn slot(to: &impl Print, j: usize, entry: [u64; 4]) -> io::Result<()> {
+    let [kind, from, to_unit, weight] = entry;
+    let kind = word(&KINDS, kind);
+    print!(to; "\n\tslot\t{j}\t{kind}\t{from}\t{to_unit}\t{weight}")
+}
+
+fn round(to: &impl Print, entry: [u64; 4]) -> io::Result<()> {
+    let [round, processed, created, _] = entry;
+    let round = word(&ROUNDS, round);
+    print!(to; "\n\tround\t{round}\t{processed}\t{created}")
+}
+
+// Entry i of a board, under its word and its place among those of its kind.
+fn tell_entry(to: &impl Print, i: usize, entry: [u64; 4]) -> io::Result<()> {
+    let [first, second, _, _] = entry;
+    match i {
+        0..=63 => print!(to; "\n\tparent\t{i}\t{first}"),
+        64..=127 => unit(to, i - 64, entry),
+        128..=383 => slot(to, i - 128, entry),
+        384..=447 => print!(to; "\n\tcounts\t{}\t{first}\t{second}", i - 384),
+        448..=511 => print!(to; "\n\tmark\t{}\t{first}", i - 448),
+        _ => round(to, entry),
     }
-}
-
-fn kind_word(kind: Kind) -> &'static str {
-    match kind {
-        Kind::Empty => "empty",
-        Kind::Work => "work",
-        Kind::Return => "return",
-        Kind::Request => "request",
-        Kind::Supply => "supply",
-    }
-}
-
-fn round_word(round: Option<Round>) -> &'static str {
-    match round {
-        None => "none",
-        Some(Round::One) => "one",
-        Some(Round::Two) => "two",
-    }
-}
-
-fn parent<P: Print>(to: &P, i: usize, parent: &u16) -> io::Result<()> {
-    print!(to; "\n\tparent\t{i}\t{parent}")
-}
-
-fn unit<P: Print>(to: &P, i: usize, x: &UnitRecord) -> io::Result<()> {
-    let suspension = if x.suspended { "suspended" } else { "free" };
-    print!(to;
-        "\n\tunit\t{i}\t{}\t{}\t{}\t{suspension}",
-        state_word(x.state),
-        x.weight,
-        x.countdown
-    )
-}
-
-fn slot<P: Print>(to: &P, j: usize, y: &Slot) -> io::Result<()> {
-    print!(to;
-        "\n\tslot\t{j}\t{}\t{}\t{}\t{}",
-        kind_word(y.kind),
-        y.from,
-        y.to,
-        y.weight
-    )
-}
-
-fn mark<P: Print>(to: &P, i: usize, marked: &bool) -> io::Result<()> {
-    print!(to; "\n\tmark\t{i}\t{}", u8::from(*marked))
-}
-
-// Tells each entry of b that is not as in a.
-fn entries<P: Print, T: PartialEq, F: Fn(&P, usize, &T) -> io::Result<()>>(
-    to: &P,
-    a: &[T],
-    b: &[T],
-    tell: F,
-) -> io::Result<()>
-    requires { F.IsAlwaysCallable tell }
-{
-    for (i, (old, new)) in a.iter().zip(b).enumerate() {
-        if *old != *new {
-            tell(to, i, new)?;
-        }
-    }
-    Ok(())
-}
-
-fn counts(to: &impl Print, a: &Board, b: &Board) -> io::Result<()> {
-    for (i, (created, processed)) in b.created.iter().zip(&b.processed).enumerate() {
-        if a.created[i] != *created || a.processed[i] != *processed {
-            print!(to; "\n\tcounts\t{i}\t{created}\t{processed}")?;
-        }
-    }
-    Ok(())
-}
-
-fn totals(to: &impl Print, a: &Rounds, b: &Rounds) -> io::Result<()> {
-    if (a.round, a.processed, a.created) == (b.round, b.processed, b.created) {
-        return Ok(());
-    }
-    print!(to;
-        "\n\tround\t{}\t{}\t{}",
-        round_word(b.round),
-        b.processed,
-        b.created
-    )
 }
 
 // Writes how b differs from a, or the word `kept` where it does not. The debt is not written: it stands in the case's line.
-pub(crate) fn tell<P: Print>(to: &P, a: Board, b: Board, kept: &str) -> io::Result<()> {
+pub(crate) fn tell(to: &impl Print, a: Board, b: Board, kept: &str) -> io::Result<()> {
     if a == b {
         return println!(to; "\t{kept}");
     }
     if (a.n, a.m, a.delay) != (b.n, b.m, b.delay) {
         print!(to; "\n\tsizes\t{}\t{}\t{}", b.n, b.m, b.delay)?;
     }
-    entries(to, &a.parents, &b.parents, parent)?;
-    entries(to, &a.units, &b.units, unit)?;
-    entries(to, &a.slots, &b.slots, slot)?;
-    counts(to, &a, &b)?;
-    entries(to, &a.rounds.visited, &b.rounds.visited, mark)?;
-    totals(to, &a.rounds, &b.rounds)?;
+    for i in 0..ENTRIES {
+        let entry = entry_in(&b, i);
+        if entry_in(&a, i) != entry {
+            tell_entry(to, i, entry)?;
+        }
+    }
     println!(to)
 }

@@ -10,7 +10,7 @@ use std::io;
 
 // Answer, debt and verdict, then what is not as on the board a.
 fn outcome(to: &impl Print, a: Board, out: Outcome, kept: &str) -> io::Result<Board> {
-    let verdict = Told(board::finished(out.board));
+    let verdict = Told(board::finished(out.board).map_err(Refusal::number));
     print!(to;
         "\t{}\t{}\t{verdict}",
         number_of(out.answer),
@@ -99,7 +99,7 @@ fn edit(to: &impl Print, b: Board, case: &Case<'_>) -> io::Result<Board> {
     let answer = number_of(steps::step(edited, Step::Tick(0).into()).answer);
     print!(to; "\t{sound}\t{answer}")?;
     tell_depth(to, board::depth_of(edited, 0))?;
-    let verdict = Told(board::finished(edited));
+    let verdict = Told(board::finished(edited).map_err(Refusal::number));
     println!(to; "\t{verdict}")?;
     Ok(edited)
 }

@@ -40,8 +40,8 @@ fn marks_entry(k: Rounds, i: usize) -> [u64; 4]
     [round_place(k.round), k.processed, k.created, 0]
 }
 
-fn rounds_entry(b: Board, i: usize) -> [u64; 4]
-    ensures { result ≡ rounds_entry b i }
+fn rounds_entry(b: &Board, i: usize) -> [u64; 4]
+    ensures { result ≡ rounds_entry b.now i }
 {
     if i < 64 {
         return [u64::from(b.created[i]), b.processed[i], 0, 0];
@@ -49,9 +49,17 @@ fn rounds_entry(b: Board, i: usize) -> [u64; 4]
     marks_entry(b.rounds, i - 64)
 }
 
-// Entry i of a board; behind the last the last again. By ranges of i, as in the definition: the entries are of five kinds.
+// Entry i of a board; behind the last the last again.
 pub fn entry(b: Board, i: usize) -> [u64; 4]
     ensures { result ≡ entry_of b i }
+{
+    entry_in(&b, i)
+}
+
+// The same of a board that is lent, for who asks for all of its entries. By ranges of i, as in the definition: the entries are of five
+// kinds.
+pub fn entry_in(b: &Board, i: usize) -> [u64; 4]
+    ensures { result ≡ entry_of b.now i }
 {
     if i < 64 {
         return [u64::from(b.parents[i]), 0, 0, 0];

@@ -1,8 +1,9 @@
 // What programs that execute cases write alike: written whole at a place of a buffer, or refused by 27 with the buffer as it was.
-// In `entries` a board as numbers, in `steps` steps by name, in `told` what finished tells.
+// In `entries` a board as numbers, in `steps` steps by name, in `told` what finished tells, in `passing` an output for all cases.
 #![tactic(auto)]
 
 mod entries;
+mod passing;
 mod steps;
 mod told;
 
@@ -12,7 +13,8 @@ ghost use Rattle.placing.specs.Placing.{Writes};
 ghost use Rattle.casetext.specs.Rows.{cells_text, cells_row, verdict_text, bytes_put};
 
 use decimal::{digit_count, put_number, put_tabbed_number};
-pub use entries::entry;
+pub use entries::{entry, entry_in};
+pub use passing::PassingOver;
 use placing::{put_bytes, room_for};
 use refusals::Refusal;
 use rules::Verdict;
@@ -62,18 +64,14 @@ pub fn put_row(first: u64, cells: &[u64], out: &mut [u8], at: usize) -> Result<u
     Ok(end - at)
 }
 
-// What finished tells, at a place. By its own words, since `Told` writes where there is no buffer.
-pub fn put_verdict(
-    told: Result<Verdict, Refusal>,
-    out: &mut [u8],
-    at: usize,
-) -> Result<usize, Refusal>
+// What finished tells, or the number that refuses, at a place. By its own words, since `Told` writes where there is no buffer.
+pub fn put_verdict(told: Result<Verdict, u16>, out: &mut [u8], at: usize) -> Result<usize, Refusal>
     ensures { Writes (verdict_text told) at out.old result out.new }
 {
     match told {
         Ok(Verdict::Working) => put_bytes(b"working", out, at),
         Ok(Verdict::Finished) => put_bytes(b"finished", out, at),
-        Err(k) => put_number(u64::from(k.number()), out, at),
+        Err(k) => put_number(u64::from(k), out, at),
     }
 }
 

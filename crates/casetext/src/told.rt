@@ -2,13 +2,12 @@
 ghost use Rattle.std.specs.Prelude.{Some};
 ghost use Rattle.casetext.specs.Rows.{verdict_text};
 
-use refusals::Refusal;
 use rules::Verdict;
 use std::fmt;
 
-// The word of a verdict, or the number of a refusal.
+// The word of a verdict, or the number that refuses.
 #[derive(Clone, Copy)]
-pub struct Told(pub Result<Verdict, Refusal>);
+pub struct Told(pub Result<Verdict, u16>);
 
 impl fmt::Display for Told {
     ghost output = { λ told. Some (verdict_text told.0) };
@@ -17,7 +16,7 @@ impl fmt::Display for Told {
         match self.0 {
             Ok(Verdict::Working) => write!(f, "working"),
             Ok(Verdict::Finished) => write!(f, "finished"),
-            Err(k) => write!(f, "{}", k.number()),
+            Err(k) => write!(f, "{k}"),
         }
     }
 }

@@ -1,10 +1,8 @@
--- A refusal's number is spelled as std writes it.
+-- A number is spelled as std writes it.
 use Rattle.std.proofs.Common.{rules, arith}
-use Rattle.refusals.specs.Numbers.{number}
-use Rattle.refusals.proofs.NumberLaws.{two_digits}
 use Rattle.casetext.proofs.SpelledLaws.{spelled_decimal}
 use Rattle.casetext.proofs.told.ToldDisplay.fmt.Goals as goal
 
 pub returns-in-Err-clause-writes : goal.returns-in-Err-clause-writes
 returns-in-Err-clause-writes g c =
-    rw (c.in-Err.is, spelled_decimal (number c.in-Err.k) (omega (arith, (two_digits c.in-Err.k).1)), ← c.number.ensures) (search rules)
+    rw (c.in-Err.is, spelled_decimal c.in-Err.k (omega arith)) (search rules)
