@@ -33,9 +33,17 @@ pub(crate) fn gather(script: &[u8], from: usize, most: usize) -> Gathered
     // A cursor: each line begins where the one before it ended.
     while count < most && at < script.len() {
         let here = line_at(script, at);
-        let step = read_step(&script[at..here.end]);
-        refusals[count] = step.err();
-        steps[count] = step.unwrap_or(NO_STEP);
+        // Both are stored in each arm: a pair that the `match` gave would be taken apart once more for each line.
+        match read_step(&script[at..here.end]) {
+            Ok(step) => {
+                refusals[count] = None;
+                steps[count] = step;
+            }
+            Err(refusal) => {
+                refusals[count] = Some(refusal);
+                steps[count] = NO_STEP;
+            }
+        }
         count += 1;
         at = here.next;
     }

@@ -34,11 +34,14 @@ fn turn(p: Progress, script: &[u8], out: &mut [u8]) -> Progress
 {
     let g = gather(script, p.next.at, batch_size(out.len() - p.to));
     let done = run_batch(p.next.board, g.steps, g.count);
+    // Each by itself: lent from inside `done`, they would keep it in one piece, which is cleared before each batch.
+    let answers = done.answers;
+    let debts = done.debts;
     let w = write_rows(
         p.next.line,
         &g.refusals[..g.count],
-        &done.answers,
-        &done.debts,
+        &answers,
+        &debts,
         out,
         p.to,
     );

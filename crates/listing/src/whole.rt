@@ -3,8 +3,9 @@ ghost use Rattle.std.specs.Prelude.{◌≡◌, length, leb};
 ghost use Rattle.placing.specs.Placing.{Writes};
 ghost use Rattle.listing.specs.Scripts.{listing};
 
+use crate::Cursor;
 use crate::bounds::bound;
-use crate::cursors::{beginning, is_ended};
+use crate::cursors::is_ended;
 use crate::parts::list_part;
 use refusals::Refusal;
 
@@ -14,7 +15,7 @@ pub fn listing_length(script: &[u8]) -> usize
     ensures { result ≡ length (listing script.now) }
 {
     let mut part = [0u8; 32768];
-    let mut c = beginning();
+    let mut c = Cursor::Beginning;
     let mut n = 0;
     // The cursor moves by the lines that a part has, so this is no count.
     while !is_ended(c, script) {
@@ -40,5 +41,5 @@ pub fn list_all(script: &[u8], out: &mut [u8]) -> Result<usize, Refusal>
     if !listing_fits(script, out.len()) {
         return Err(Refusal::NoRoom);
     }
-    list_part(beginning(), script, out).wrote
+    list_part(Cursor::Beginning, script, out).wrote
 }

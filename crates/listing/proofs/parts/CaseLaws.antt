@@ -98,13 +98,21 @@ module _ (q : NextLine) (s out : List ℕ) where
       written_bytes : left ≡ sets out 0 (part here s (length out)).text
       written_bytes = a.buffer ∙ ap (λ (x : Piece). sets out 0 x.text) whole
 
-      -- not even the next line fits
-      pub later_27 : p.to ≡ 0 → Gives here s out (Err NoRoom) left
-      later_27 z =
-          let stop : stops here s (length out) ≡ true = empty_stops (suc (length s)) here s (length out) (omega arith) (omega (arith, written_length, z)) in
-          let none : part here s (length out) ≡ none here = part_stopped (suc (length s)) here s (length out) stop in
-          let no : leb (length (piece here s).text) (length out) ≡ false = not-true _ (rw not_ended at stop) in
-          subst (Gives here s out (Err NoRoom)) (sym (written_bytes ∙ ap (λ (x : Piece). sets out 0 x.text) none)) (gives_27 here s out (is_short l) (is_kept safe) (rw (not_ended, no)))
+      -- not even the next line fits, and the cursor stays
+      module _ (z : p.to ≡ 0) where
+        stop : stops here s (length out) ≡ true
+        stop = empty_stops (suc (length s)) here s (length out) (omega arith) (omega (arith, written_length, z))
+
+        part_none : part here s (length out) ≡ none here
+        part_none = part_stopped (suc (length s)) here s (length out) stop
+
+        pub later_27 : Gives here s out (Err NoRoom) left
+        later_27 =
+            let no : leb (length (piece here s).text) (length out) ≡ false = not-true _ (rw not_ended at stop) in
+            subst (Gives here s out (Err NoRoom)) (sym (written_bytes ∙ ap (λ (x : Piece). sets out 0 x.text) part_none)) (gives_27 here s out (is_short l) (is_kept safe) (rw (not_ended, no)))
+
+        pub later_stays : cursor_of p ≡ here
+        later_stays = a.cursor ∙ ap (λ (x : Piece). x.next) (whole ∙ part_none)
 
       -- the next line fits
       is_fitting : (p.to ≡ 0 → ⊥) → fits here s out ≡ true

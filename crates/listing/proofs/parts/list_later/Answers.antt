@@ -1,23 +1,24 @@
 -- The tests in their order, and what is listed where all hold.
 use mathlib.Core.Path.{sym, ◌∙◌}
 use native.Mathlib.Omega.{arith}
-use Rattle.listing.proofs.parts.CaseLaws.{later_ended, later_26, later_30, later_27, later_part}
+use Rattle.listing.proofs.parts.CaseLaws.{later_ended, later_26, later_30, later_27, later_stays, later_part}
 use Rattle.listing.proofs.parts.list_later.Goals as goal
-
-pub returns-then-next-script : goal.returns-then-next-script
-returns-then-next-script c = later_ended c.args.next c.args.script.now c.args.out.now c.if-next-script.true
-
-pub returns-then-script-gt-MOST_BYTES : goal.returns-then-script-gt-MOST_BYTES
-returns-then-script-gt-MOST_BYTES c = later_26 c.args.next c.args.script.now c.args.out.now c.if-next-script.false c.if-script-gt-MOST_BYTES.true
-
-pub returns-then-not-is_sound : goal.returns-then-not-is_sound
-returns-then-not-is_sound c =
-    later_30 c.args.next c.args.script.now c.args.out.now c.if-next-script.false (omega arith) (sym c.is_sound.ensures ∙ c.if-not-is_sound.true)
-
-pub returns-then-p-eq0 : goal.returns-then-p-eq0
-returns-then-p-eq0 c =
-    later_27 c.args.next c.args.script.now c.args.out.now c.if-next-script.false c.if-script-gt-MOST_BYTES.false (sym c.is_sound.ensures ∙ c.if-not-is_sound.false) c.list_lines-p.ensures c.if-p-eq0.true
+use Rattle.listing.proofs.parts.list_later.Goals.{then-next-script, else-next-script+then-script-gt-MOST_BYTES, else-next-script+else-script-gt-MOST_BYTES+then-not-is_sound, else-next-script+else-script-gt-MOST_BYTES+else-not-is_sound+then-p-eq0, else-next-script+else-script-gt-MOST_BYTES+else-not-is_sound+else-p-eq0}
 
 pub returns : goal.returns
 returns c =
-    later_part c.args.next c.args.script.now c.args.out.now c.if-next-script.false c.if-script-gt-MOST_BYTES.false (sym c.is_sound.ensures ∙ c.if-not-is_sound.false) c.list_lines-p.ensures c.if-p-eq0.false
+    let next = c.args.next.now in
+    let s = c.args.script.now in
+    let out = c.args.out.now in
+    elim c.if-next-script.branch [
+      | then-next-script w ↦ rw (w.wrote-is, w.p-is, w.out-is) (later_ended next s out w.if-next-script.true)
+      | else-next-script+then-script-gt-MOST_BYTES w ↦ rw (w.wrote-is, w.p-is, w.out-is) (later_26 next s out w.if-next-script.false w.if-script-gt-MOST_BYTES.true)
+      | else-next-script+else-script-gt-MOST_BYTES+then-not-is_sound w ↦ rw (w.wrote-is, w.p-is, w.out-is) (later_30 next s out w.if-next-script.false (omega arith) (sym w.is_sound.ensures ∙ w.if-not-is_sound.true))
+      | else-next-script+else-script-gt-MOST_BYTES+else-not-is_sound+then-p-eq0 w ↦
+          let sound = sym w.is_sound.ensures ∙ w.if-not-is_sound.false in
+          rw (w.wrote-is, w.p-is, w.out-is, later_stays next s out w.if-next-script.false w.if-script-gt-MOST_BYTES.false sound w.list_lines-p.ensures w.if-p-eq0.true)
+          (later_27 next s out w.if-next-script.false w.if-script-gt-MOST_BYTES.false sound w.list_lines-p.ensures w.if-p-eq0.true)
+      | else-next-script+else-script-gt-MOST_BYTES+else-not-is_sound+else-p-eq0 w ↦
+          rw (w.wrote-is, w.p-is, w.out-is)
+          (later_part next s out w.if-next-script.false w.if-script-gt-MOST_BYTES.false (sym w.is_sound.ensures ∙ w.if-not-is_sound.false) w.list_lines-p.ensures w.if-p-eq0.false)
+    ]

@@ -16,4 +16,4 @@ returns-then-not-listing_fits c =
 
 pub returns : goal.returns
 returns c =
-    whole_listed c.args.script.now c.args.out.now c.beginning.ensures (leb-true _ _ (sym c.listing_fits.ensures ∙ c.if-not-listing_fits.false)) c.list_part.ensures.0 c.list_part.ensures.1
+    whole_listed c.args.script.now c.args.out.now refl (leb-true _ _ (sym c.listing_fits.ensures ∙ c.if-not-listing_fits.false)) c.list_part.ensures.0 c.list_part.ensures.1

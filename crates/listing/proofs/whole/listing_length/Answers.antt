@@ -1,12 +1,12 @@
 -- At each turn, the bytes counted and those still to come are those of the listing.
-use mathlib.Core.Path.{sym, ◌∙◌}
+use mathlib.Core.Path.{refl, sym, ◌∙◌}
 use native.Mathlib.Omega.{arith}
 use borrow.Author.Rules.{rules}
 use Rattle.listing.proofs.CallLaws.{counting_begins, counting_ends, counting_goes, counting_fits, counting_less}
 use Rattle.listing.proofs.whole.listing_length.Goals as goal
 
 pub loop-part-init : goal.loop-part-init
-loop-part-init c = (search rules, counting_begins c.args.script.now c.beginning-c.result c.beginning-c.ensures)
+loop-part-init c = (search rules, counting_begins c.args.script.now _ refl)
 
 pub overflow_add-n : goal.overflow_add-n
 overflow_add-n c =
