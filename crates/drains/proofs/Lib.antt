@@ -1,2 +1,3 @@
+pub mod JoinLaws
 pub mod CheckLaws
 pub mod MeetLaws

@@ -1,8 +1,7 @@
 -- The steps of the elements of a list, one behind the other; those of the units and of the slots are the longest list.
 use mathlib.Core.Path.{◌≡◌, sym, ap, subst, ◌∙◌}
-use mathlib.Core.List.{List, [], ◌∷◌, ◌++◌, append_assoc, append-nil}
+use mathlib.Core.List.{List, [], ◌∷◌, ◌++◌}
 use Prim.Native.Nat.{ℕ, zero, suc, ◌+◌, ◌≤◌, ◌<◌, zero-le}
-use native.Mathlib.Nat.{not-suc-le-zero, le_of_suc-le-suc}
 use native.Mathlib.Numerals.{add-one}
 use native.Mathlib.Omega.{arith}
 use lib.ListN.{length, get_or, take, drop, length-append}
@@ -12,6 +11,7 @@ use Rattle.rules.specs.Sheets.Longest.{unit_steps, slot_steps, join_of, longest_
 use Rattle.rules.specs.declared.StepRecord.{StepRecord}
 use Rattle.rules.proofs.Sheets.LongestLaws.{length_list}
 use Rattle.drains.specs.Writing.{Writes}
+use Rattle.drains.proofs.JoinLaws.{join_taken}
 use Rattle.drains.proofs.journeys.WritingLaws.{writes_none, writes_then, writes_front}
 
 -- ---- the steps of the elements of a list, one behind the other: those of the first i are written
@@ -26,13 +26,6 @@ module _ {A : Type 0} (f : ℕ → A → List StepRecord) where
   join_front g [] (suc i) = zero-le
   join_front g (x ∷ xs) (suc i) =
       omega (arith, length-append (g 0 x) (join_of (λ k. g (suc k)) (take i xs)), length-append (g 0 x) (join_of (λ k. g (suc k)) xs), join_front (λ k. g (suc k)) xs i)
-
-  join_taken : (g : ℕ → A → List StepRecord) (xs : List A) (i : ℕ) (d : A) → i < length xs → join_of g (take (suc i) xs) ≡ join_of g (take i xs) ++ g i (get_or xs i d)
-  unfolding join_of
-  join_taken g [] i d l = absurd (not-suc-le-zero l)
-  join_taken g (x ∷ xs) zero d l = append-nil (g 0 x)
-  join_taken g (x ∷ xs) (suc i) d l =
-      ap (λ (ys : List StepRecord). g 0 x ++ ys) (join_taken (λ k. g (suc k)) xs i d (le_of_suc-le-suc l)) ∙ sym (append_assoc (g 0 x) (join_of (λ k. g (suc k)) (take i xs)) (g (suc i) (get_or xs i d)))
 
   module _ (xs : List A) (i : ℕ) (x : A) (l : i < length xs) (read : x ≡ get_or xs i x) {at₀ at : ℕ} {list₀ list : List StepRecord} (w : Writes (join_of f (take i xs)) at₀ list₀ list at) where
     taken : join_of f (take (i + 1) xs) ≡ join_of f (take i xs) ++ f i x
