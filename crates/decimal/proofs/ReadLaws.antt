@@ -38,7 +38,7 @@ unfolding value_from
 value_grows v [] = le_refl v
 value_grows v (c ∷ cs) = omega (arith, value_grows (v * 10 + (c - 48)) cs)
 
-read_large : (v : ℕ) (cs : List ℕ) → 65535 < v → read_from v cs ≡ Err NoNumber
+pub read_large : (v : ℕ) (cs : List ℕ) → 65535 < v → read_from v cs ≡ Err NoNumber
 unfolding read_from
 read_large v cs h = rw (lt-leb (value_from v cs) 65535 (omega (arith, value_grows v cs)), and-false)
 

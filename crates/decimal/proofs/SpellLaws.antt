@@ -14,7 +14,7 @@ use Rattle.decimal.specs.Reading.{is_digit, all_digits}
 use Rattle.decimal.proofs.CountLaws.{power_pos, below_count}
 
 -- the first of k + 1 digits, and what is left for the others
-lead_digit : (k n : ℕ) → n < 10 ^ suc k → n / 10 ^ k < 10
+pub lead_digit : (k n : ℕ) → n < 10 ^ suc k → n / 10 ^ k < 10
 lead_digit k n h = (div-lt_iff_lt-mul (power_pos k)).1 (omega (arith, pow-suc 10 k))
 
 pub lead_rest : (k n : ℕ) → n % 10 ^ k < 10 ^ k

@@ -16,7 +16,7 @@ use Rattle.rules.specs.Facts.{same_list}
 use Rattle.fields.proofs.Cases.{by_cond}
 use Rattle.script.specs.Words.{words, place_of, word_number}
 
-same_pointwise : (w v : List ℕ) → same_list w v ≡ pointwise eqb w v
+pub same_pointwise : (w v : List ℕ) → same_list w v ≡ pointwise eqb w v
 unfolding same_list
 same_pointwise [] [] = refl
 same_pointwise [] (d ∷ v) = refl
