@@ -1,14 +1,12 @@
 -- One read behind what was read before, and what the bytes read say of the whole input.
-use Rattle.std.proofs.Common.{◌≡◌, ◌∙◌, sym, ap, subst, ℕ, ◌+◌, ◌-◌, ◌<◌, ◌≤◌, None, Some, IfSome, List, ◌++◌, append-nil, length, take, drop, Result, Ok, Err, MatchResult, arith}
+use Rattle.std.proofs.Common.{◌≡◌, ◌∙◌, sym, ap, subst, ℕ, ◌+◌, ◌-◌, ◌<◌, ◌≤◌, None, Some, IfSome, List, ◌++◌, append-nil, length, take, drop, Ok, arith}
 use Rattle.std.proofs.Math.Logic.{⊎_elim}
 use Rattle.std.proofs.Math.Nat.{eq-or-lt_of_le}
 use Rattle.std.proofs.Math.Seq.{length-take-le, take-add}
 use Rattle.std.proofs.KnownBytes.{Consumes-trans}
 use Rattle.std.specs.Io.KnownBytes.{Consumes}
 use Rattle.std.specs.declared.option.Option.{Option}
-use Rattle.std.specs.declared.io.Error.{Error}
-use Rattle.reading.specs.Input.{ReadBetween, Gives}
-use Rattle.reading.specs.declared.failures.Failure.{Failure}
+use Rattle.reading.specs.Input.{Gives}
 
 -- the bytes read before, which the read kept, and those that it gave behind them are the first that the reader had left
 pub reads_on : (a b c : Option (List ℕ)) (at n : ℕ) (old new : List ℕ) → at ≤ n → take at new ≡ take at old → Consumes a b (take at old) → Consumes b c (take (n - at) (drop at new)) → Consumes a c (take n new)
@@ -31,12 +29,3 @@ reads_enough f most same (Some s) (Some rest) n buf room within read = ⊎_elim 
 
     full : n ≡ length buf → f (take n buf) ≡ f s
     full e = sym (ap f read.0 ∙ same (take n buf) rest (omega (arith, length-take-le n buf within)))
-
--- the same of a reading whose failure was told as one of the program, where there was none
-pub reads_whole : {X : Type 0} (f : List ℕ → X) (most : ℕ) → ((t rest : List ℕ) → most < length t → f (t ++ rest) ≡ f t) → (before after : Option (List ℕ)) (buf : List ℕ)
-    → length buf ≡ most + 1 → (read : Result ℕ Error) (n : ℕ) → MatchResult read (λ k. ◌≡◌ {A = Result ℕ Failure} (Ok n) (Ok k)) (λ e. ⊥) → ReadBetween 0 (length buf) read → Gives before after read buf
-    → IfSome before (λ s. f (take n buf) ≡ f s)
-reads_whole f most same before after buf room (Ok k) n told within read =
-    let e : k ≡ n = cc in
-    reads_enough f most same before after n buf room (subst (λ (j : ℕ). j ≤ length buf) e within.1) (subst (λ (j : ℕ). Gives before after (Ok j) buf) e read)
-reads_whole f most same before after buf room (Err x) n told within read = absurd told

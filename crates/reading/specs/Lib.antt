@@ -1,3 +1,4 @@
+pub mod Failures
 pub mod Input
 pub mod Output
 pub mod Reads

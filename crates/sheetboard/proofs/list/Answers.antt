@@ -1,7 +1,6 @@
 -- `list`: at each turn the bytes handed over are the next of the listing.
 use Rattle.std.proofs.Common.{◌≡◌, ◌∙◌, refl, sym, ap, subst, List, ℕ, true, false, take, length, arith, rules}
 use Rattle.std.proofs.lemmas.List.{take_all}
-use Rattle.std.proofs.KnownBytes.{Appends-nil}
 use Rattle.std.specs.Io.KnownBytes.{Appends}
 use Rattle.listing.specs.Scripts.{listing}
 use Rattle.listing.specs.Parts.{ended}
@@ -12,7 +11,7 @@ pub loop-out-init : goal.loop-out-init
 loop-out-init g c = record {
   room = refl;
   handing = handing_begun c.args.script.now (omega (arith, c.requires)) c.beginning-c.result c.beginning-c.ensures;
-  bytes = search (rules, nothing_arrived, Appends-nil);
+  bytes = search (rules, nothing_arrived);
 }
 
 pub write_part-requires : goal.write_part-requires
