@@ -8,7 +8,7 @@
  * a cell is aligned for its type. Buffers and cells do not overlap each other or what is read.
  *
  * No function keeps a pointer, allocates memory or has state of its own: calls from several threads need no lock as
- * long as what they lend is their own. A listing uses some 120 KB of stack, a line less than 1 KB.
+ * long as what they lend is their own. A listing uses some 172 KB of stack, a line less than 1 KB.
  *
  * Boards themselves do not pass: a caller keeps its steps as a script, and the listing says after each step whether
  * the sheet is complete.

@@ -14,7 +14,10 @@ use Rattle.rules.specs.Finished.{verdict}
 use Rattle.rules.specs.declared.Outcome.{Outcome}
 use Rattle.rules.proofs.FactLaws.{true_not_false}
 use Rattle.fields.proofs.Cases.{by_test, by_cond}
-use Rattle.texts.specs.Texts.{heading, state_word, board_text}
+use Rattle.std.specs.Prelude.{Result}
+use Rattle.refusals.specs.declared.Refusal.{Refusal}
+use Rattle.rules.specs.declared.Verdict.{Verdict}
+use Rattle.texts.specs.Texts.{heading, state_word, line_text, board_text}
 use Rattle.listing.specs.Scripts.{start_outcome}
 use Rattle.listing.specs.Parts.{Piece, ended, later_piece, piece, rest_from, stops, before, part_within, part}
 use Rattle.texts.proofs.TextLaws.{line_length}
@@ -96,6 +99,9 @@ part_enough k j c s room l =
     ∙ ap (λ (x : List ℕ). record { text = x; next = p.next }) (append-nil p.text)
 
 -- ---- what a part leaves
+pub line_some : (n k debt : ℕ) (v : Result Verdict Refusal) → 1 ≤ length (line_text n k debt v)
+line_some n k debt v = omega (arith, line_length n k debt (state_word v))
+
 piece_some : (c : Cursor) (s : List ℕ) → 1 ≤ length (piece c s).text
 unfolding piece later_piece
 piece_some Beginning s =
@@ -103,7 +109,7 @@ piece_some Beginning s =
     omega (arith, ap length (start_text s), length-append heading (board_text 0 (number_of first.answer) first.board))
 piece_some (Behind p) s =
     let o : Outcome = outcome_at p.at p.board s in
-    omega (arith, line_length p.line (number_of o.answer) o.board.debt (state_word (verdict o.board)))
+    line_some p.line (number_of o.answer) o.board.debt (verdict o.board)
 
 -- every piece has a byte, so a part without any has no piece
 pub part_empty : (k : ℕ) (c : Cursor) (s : List ℕ) (room : ℕ) → length (part_within k c s room).text ≤ 0 → part_within k c s room ≡ none c

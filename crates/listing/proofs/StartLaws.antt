@@ -127,7 +127,7 @@ unfolding first_piece
 start_next s = first_next s (start_outcome s) (script_starts s)
 
 -- where a line is left behind the first, the board is sound
-start_sound : (s : List ℕ) (o : Outcome) → Started s o → start_place s o.answer < length s → Sound o.board
+pub start_sound : (s : List ℕ) (o : Outcome) → Started s o → start_place s o.answer < length s → Sound o.board
 start_sound s o (opened l e h d) m = h
 start_sound s o (refused k e) m = absurd (let p = rw e at m in omega arith)
 

@@ -1,10 +1,13 @@
 -- What the calls inside a listing in parts give: the place behind the first line, and a batch of lines gathered and written.
 -- For private contracts only; a reader of the claim may skip this.
-use Rattle.std.specs.Prelude.{Option, Some, None, Result, Ok, Err, List, [], ◌∷◌, ◌≡◌, ℕ, ◌+◌, ◌-◌, ◌/◌, min, max, length, take}
+use Rattle.std.specs.Prelude.{Option, Some, None, Result, Ok, Err, List, [], ◌∷◌, ◌≡◌, ℕ, ◌+◌, ◌-◌, ◌/◌, min, max, length, take, leb}
 use Rattle.std.proofs.lemmas.List.Edits.{sets}
 use Rattle.std.specs.Result.{result_unwrap_or}
 use Rattle.refusals.specs.Numbers.{number}
 use Rattle.refusals.specs.declared.Refusal.{Refusal}
+use Rattle.refusals.specs.declared.Refusal.TheVariants.{ScriptTooLong, NotSound}
+use Rattle.rules.specs.Facts.{Check, check, holds}
+use Rattle.rules.specs.Sound.{sound}
 use Rattle.rules.specs.Sheets.Finished.{told_from}
 use Rattle.rules.specs.Runs.{batch_most}
 use Rattle.placing.specs.Placing.{wrote, written}
@@ -13,6 +16,7 @@ use Rattle.texts.specs.Texts.{line_text}
 use Rattle.listing.specs.Bounds.{longest_line}
 use Rattle.listing.specs.Parts.{next_number, part_within}
 use Rattle.listing.specs.Batches.{records_of, refusals_of}
+use Rattle.listing.specs.declared.NextLine.{NextLine}
 use Rattle.listing.specs.declared.Cursor.{Cursor}
 use Rattle.listing.specs.declared.Cursor.TheVariants.{Behind}
 use Rattle.listing.specs.declared.Part.{Part}
@@ -65,6 +69,10 @@ cursor_of p = Behind p.next
 abbrev pub part_by : Cursor → Result Progress Refusal → Part
 part_by c (Ok p) = record { wrote = Ok p.to; cursor = cursor_of p }
 part_by c (Err k) = record { wrote = Err k; cursor = c }
+
+-- what is asked of a cursor behind the first line, where lines are left
+abbrev pub later_checks : NextLine → List ℕ → List Check
+later_checks p s = check (holds (leb (length s) 65535)) ScriptTooLong ∷ check (holds (sound p.board)) NotSound ∷ []
 
 -- how many lines surely fit in so many bytes, at most a batch; one where none surely does
 abbrev pub batch_size : ℕ → ℕ

@@ -1,6 +1,8 @@
 // A listing in parts: from a cursor as many whole lines as fit in a lent buffer, and the cursor behind them.
-ghost use Rattle.std.specs.Prelude.{◌≡◌};
+ghost use Rattle.std.specs.Prelude.{◌≡◌, Ok, Err};
+ghost use Rattle.rules.specs.Facts.{judge};
 ghost use Rattle.listing.specs.Parts.{part_of, part_buffer};
+ghost use Rattle.listing.specs.Turns.{later_checks};
 ghost use Rattle.listing.specs.declared.Cursor.TheVariants.{Beginning, Behind};
 
 use crate::starting::{start_outcome, start_place, write_first};
@@ -16,7 +18,8 @@ fn list_first(script: &[u8], out: &mut [u8]) -> Part
     let o = start_outcome(script);
     match write_first(o, out) {
         Ok(to) => {
-            let start = Progress {
+            // Moved on where it lies: a second one would be cleared first.
+            let mut p = Progress {
                 next: NextLine {
                     at: start_place(o.answer, script),
                     line: 1,
@@ -24,7 +27,7 @@ fn list_first(script: &[u8], out: &mut [u8]) -> Part
                 },
                 to,
             };
-            let p = list_lines(start, script, out);
+            p = list_lines(p, script, out);
             Part {
                 wrote: Ok(p.to),
                 cursor: Cursor::Behind(p.next),
@@ -37,26 +40,39 @@ fn list_first(script: &[u8], out: &mut [u8]) -> Part
     }
 }
 
+// Whether lines may be listed from there on.
+fn may_list(next: &NextLine, script: &[u8]) -> Result<(), Refusal>
+    ensures { result ≡ judge Err (later_checks next.now script.now) (Ok tt) }
+{
+    if script.len() > MOST_BYTES {
+        return Err(Refusal::ScriptTooLong);
+    }
+    if !is_sound(next.board) {
+        return Err(Refusal::NotSound);
+    }
+    Ok(())
+}
+
 // Behind the first line. At the script's end there is nothing to write and nothing to refuse. One exit, since each early return would copy
 // the board once more.
 fn list_later(next: &NextLine, script: &[u8], out: &mut [u8]) -> Part
     ensures { (result ≡ part_of (Behind next.now) script.now out.old) × (out.new ≡ part_buffer (Behind next.now) script.now out.old) }
 {
     let mut p = Progress { next: *next, to: 0 };
-    let wrote = if next.at >= script.len() {
-        Ok(0)
-    } else if script.len() > MOST_BYTES {
-        Err(Refusal::ScriptTooLong)
-    } else if !is_sound(next.board) {
-        Err(Refusal::NotSound)
-    } else {
-        p = list_lines(p, script, out);
-        if p.to == 0 {
-            Err(Refusal::NoRoom)
-        } else {
-            Ok(p.to)
-        }
-    };
+    let mut wrote = Ok(0);
+    if next.at < script.len() {
+        wrote = match may_list(next, script) {
+            Ok(()) => {
+                p = list_lines(p, script, out);
+                if p.to == 0 {
+                    Err(Refusal::NoRoom)
+                } else {
+                    Ok(p.to)
+                }
+            }
+            Err(refusal) => Err(refusal),
+        };
+    }
     Part {
         wrote,
         cursor: Cursor::Behind(p.next),

@@ -8,12 +8,14 @@ use native.Mathlib.Omega.{arith}
 use lib.ListN.{length, length-append}
 use lib.Dec.{leb}
 use lib.Seq.{sets, length-sets}
-use borrow.Author.Tests.{le-leb, lt-leb, not-true}
+use borrow.Author.Tests.{le-leb, lt-leb, leb-true, leb-false, not-true}
 use Rattle.std.specs.Prelude.{Result, Ok, Err}
 use Rattle.refusals.specs.Numbers.{number_of}
 use Rattle.refusals.specs.declared.Refusal.{Refusal}
 use Rattle.refusals.specs.declared.Refusal.TheVariants.{ScriptTooLong, NotSound, NoRoom}
+use Rattle.rules.specs.Facts.{judge}
 use Rattle.rules.specs.Sound.{sound}
+use Rattle.fields.proofs.Cases.{by_test}
 use Rattle.rules.proofs.FactLaws.{true_or_false}
 use Rattle.rules.specs.declared.Outcome.{Outcome}
 use Rattle.placing.specs.Placing.{Writes}
@@ -21,7 +23,7 @@ use Rattle.placing.proofs.WriteLaws.{wrote_fits, wrote_short, wrote_count, writt
 use Rattle.texts.proofs.TextLaws.{stored_then}
 use Rattle.listing.specs.Scripts.{start_outcome}
 use Rattle.listing.specs.Parts.{Piece, ended, first_piece, piece, stops, before, part_within, part, may_be_listed, may_be_led_to, part_of, part_buffer}
-use Rattle.listing.specs.Turns.{start_place, cursor_of, part_by, WritesPieces}
+use Rattle.listing.specs.Turns.{start_place, cursor_of, part_by, later_checks, WritesPieces}
 use Rattle.texts.specs.Texts.{heading, board_text}
 use Rattle.listing.proofs.StartLaws.{ok_not_err, start_cursor, start_text, start_next, start_asked}
 use Rattle.listing.proofs.PartLaws.{none, part_stopped, empty_stops, part_then}
@@ -30,7 +32,7 @@ use Rattle.listing.specs.declared.Cursor.{Cursor}
 use Rattle.listing.specs.declared.Cursor.TheVariants.{Beginning, Behind}
 use Rattle.listing.specs.declared.turns.Progress.{Progress}
 
-err_same : {j k : Refusal} → ◌≡◌ {A = Result ℕ Refusal} (Err j) (Err k) → j ≡ k
+err_same : {A : Type 0} {j k : Refusal} → ◌≡◌ {A = Result A Refusal} (Err j) (Err k) → j ≡ k
 err_same e = cc
 
 -- what a call comes to, and what it leaves of its buffer
@@ -87,6 +89,22 @@ module _ (q : NextLine) (s out : List ℕ) where
 
     pub later_30 : length s ≤ 65535 → sound q.board ≡ false → Gives here s out (Err NotSound) out
     later_30 l u = gives_30 here s out (is_short l) (rw (not_ended, u))
+
+    -- by what the tests of the cursor answer
+    pub later_refused : {r : Result (Unit {0}) Refusal} → r ≡ judge Err (later_checks q s) (Ok tt) → {k : Refusal} → r ≡ Err k → Gives here s out (Err k) out
+    later_refused {r} is {k} e =
+        let j = sym is ∙ e in
+        by_test (leb (length s) 65535)
+        (λ l.
+        by_test (sound q.board) (λ h. absurd (ok_not_err (rw (l, h) at j)))
+        (λ u. subst (λ (i : Refusal). Gives here s out (Err i) out) (err_same (rw (l, u) at j)) (later_30 (leb-true (length s) 65535 l) u)))
+        (λ l. subst (λ (i : Refusal). Gives here s out (Err i) out) (err_same (rw l at j)) (later_26 (leb-false (length s) 65535 l)))
+
+    pub later_accepted : {r : Result (Unit {0}) Refusal} → r ≡ judge Err (later_checks q s) (Ok tt) → r ≡ Ok tt → (length s ≤ 65535) × (sound q.board ≡ true)
+    later_accepted {r} is e =
+        let j = sym is ∙ e in
+        by_test (leb (length s) 65535)
+        (λ l. by_test (sound q.board) (λ h. (leb-true (length s) 65535 l, h)) (λ u. absurd (ok_not_err (sym (rw (l, u) at j))))) (λ l. absurd (ok_not_err (sym (rw l at j))))
 
     module _ (l : length s ≤ 65535) (safe : sound q.board ≡ true) {p : Progress} {left : List ℕ} (a : WritesPieces (suc (length s)) (record { next = q; to = 0 }) s out p left) where
       whole : part here s (length out - 0) ≡ part here s (length out)
