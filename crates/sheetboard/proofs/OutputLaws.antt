@@ -100,7 +100,7 @@ pub record Handing (s : List ℕ) (c : Cursor) (n : ℕ) : Type 0 where
   pub follows : Follows s n
   pub behind : c ≡ cursor_after beginning s (rooms follows.turns)
 
-handing_begins : (s : List ℕ) (c : Cursor) → c ≡ beginning → Handing s c 0
+pub handing_begins : (s : List ℕ) (c : Cursor) → c ≡ beginning → Handing s c 0
 unfolding joined cursor_after joined_follows
 handing_begins s c e = record { counting = counting_begins s c e; follows = joined_follows s 0 0 refl; behind = e }
 

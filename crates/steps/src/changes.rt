@@ -1,7 +1,7 @@
 // What a step changes, from what it finds alone.
 ghost use Rattle.std.specs.Prelude.{◌≡◌};
 ghost use Rattle.rules.specs.Effects.{change_of};
-ghost use Rattle.steps.specs.Changing.{effect_on, change_at};
+ghost use Rattle.steps.specs.Changing.{change_at};
 
 use crate::found::Found;
 use crate::places::in_use;

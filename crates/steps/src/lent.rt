@@ -5,7 +5,7 @@ use crate::step;
 use refusals::Refusal;
 use rules::{Board, StepRecord};
 
-// The step on a lent board, which is advanced where it is.
+// The step on a lent board: the step by value, whose board is stored back.
 pub fn step_lent(b: &mut Board, r: StepRecord) -> Result<(), Refusal>
     ensures { StepMeets b.old r result b.new }
 {

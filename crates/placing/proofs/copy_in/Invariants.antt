@@ -1,5 +1,5 @@
 -- At each turn, storing what is left of the text from here gives what storing the whole gives.
-use Rattle.std.proofs.Common.{◌≡◌, ◌+◌, ◌-◌, ◌≤◌, length, drop}
+use Rattle.std.proofs.Common.{◌≡◌, ◌+◌, ◌-◌, length, drop}
 use Rattle.std.proofs.lemmas.List.Edits.{sets}
 use Rattle.placing.proofs.copy_in.Given as goal
 
