@@ -68,10 +68,12 @@ filled_none b z i ks ds = ap (λ (m : ℕ). record { ran = Ok m; board = b; answ
 filled_end : (rs : List StepRecord) (b : Board) (z i : ℕ) (ks ds : List ℕ) → length rs ≤ i → filled b (drop i rs) z i ks ds ≡ record { ran = Ok z; board = b; answers = ks; debts = ds }
 filled_end rs b z i ks ds l = ap (λ (qs : List StepRecord). filled b qs z i ks ds) (drop_of_length-le rs {i = i} l) ∙ filled_none b z i ks ds
 
--- ---- at the head of each turn of a loop over the steps rs: what is left from here gives the whole, and where a step is left the board is sound
-pub record Turn (whole : Batch) (rs : List StepRecord) (b : Board) (z i : ℕ) (ks ds : List ℕ) : Type 0 where
+-- ---- at the head of each turn of a loop over the steps rs, from the board `first` on, and at its end: what is left from here gives the whole,
+-- and the board is sound where a step is left, and wherever the first board was
+pub record Turn (whole : Batch) (first : Board) (rs : List StepRecord) (b : Board) (z i : ℕ) (ks ds : List ℕ) : Type 0 where
   pub few : z ≤ i
   pub is_sound : i < length rs → sound b ≡ true
+  pub stays_sound : sound first ≡ true → sound b ≡ true
   pub gives : filled b (drop i rs) z i ks ds ≡ whole
 
 counted : (t : Bool) → from_bool t ≡ one_if t
@@ -82,15 +84,17 @@ ok_is_zero : (k : Result (Unit {0}) Refusal) → is_ok k ≡ eqb (number_of k) 0
 ok_is_zero (Ok x) = refl
 ok_is_zero (Err k) = sym (ne_eqb (number k) 0 (refused_above_zero k))
 
-module _ (whole : Batch) (rs : List StepRecord) (b : Board) (z i : ℕ) (ks ds : List ℕ) (turn : Turn whole rs b z i ks ds) where
+module _ (whole : Batch) (first : Board) (rs : List StepRecord) (b : Board) (z i : ℕ) (ks ds : List ℕ) (turn : Turn whole first rs b z i ks ds) where
   -- the turn of the step at place i, with its answer and its debt stored, and counted as the code counts
   pub turned : (c : Board) (k : Result (Unit {0}) Refusal) (j n : ℕ) → i < length rs → step b (get_or rs i no_step) ≡ record { answer = k; board = c } → j ≡ number_of k → n ≡ from_bool (is_ok k)
-      → Turn whole rs c (z + n) (i + 1) (set ks i j) (set ds i c.debt)
+      → Turn whole first rs c (z + n) (i + 1) (set ks i j) (set ds i c.debt)
   turned c k j n l e q f =
       let g : n ≡ one_if (eqb (number_of k) 0) = f ∙ ap from_bool (ok_is_zero k) ∙ counted (eqb (number_of k) 0) in
+      let kept : sound c ≡ true = subst (λ (o : Outcome). sound o.board ≡ true) e (sound_tested _ (step_keeps_sound b (get_or rs i no_step) (sound_claims b (turn.is_sound l)))) in
       record {
         few = omega (arith, g, one_at_most (eqb (number_of k) 0), turn.few);
-        is_sound = λ m. subst (λ (o : Outcome). sound o.board ≡ true) e (sound_tested _ (step_keeps_sound b (get_or rs i no_step) (sound_claims b (turn.is_sound l))));
+        is_sound = λ m. kept;
+        stays_sound = λ s. kept;
         gives = (λ t. filled c (drop (i + 1) rs) (z + g t) (i + 1) (set ks i (q t)) (set ds i c.debt)) ∙ filled_turn rs b z i ks ds (record { answer = k; board = c }) l e ∙ turn.gives;
       }
 

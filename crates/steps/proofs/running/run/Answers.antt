@@ -12,7 +12,9 @@ pub returns-then-steps-answers : goal.returns-then-steps-answers
 returns-then-steps-answers c = run_short _ _ _ (sym c.is_sound.ensures ∙ c.if-not-is_sound.false) c.if-steps-answers.true
 
 pub loop-i-preserved : goal.loop-i-preserved
-loop-i-preserved c = (_, turned _ _ _ _ _ _ _ c.loop-i.invariant.1 _ _ _ _ c.loop-i-test.true c.advance-answer.ensures c.number_of.ensures (omega (arith, c.from-zeros.ensures ∙ ap from_bool c.is_ok.ensures.value)))
+loop-i-preserved c =
+    let t = turned _ _ _ _ _ _ _ _ c.loop-i.invariant.2 _ _ _ _ c.loop-i-test.true c.advance-answer.ensures c.number_of.ensures (omega (arith, c.from-zeros.ensures ∙ ap from_bool c.is_ok.ensures.value)) in
+    (t.stays_sound (sym c.is_sound.ensures ∙ c.if-not-is_sound.false), _, t)
 
 pub returns : goal.returns
-returns c = run_whole _ _ _ _ _ _ _ (sym c.is_sound.ensures ∙ c.if-not-is_sound.false) c.if-steps-answers.false (ended _ _ _ _ _ _ _ c.loop-i.invariant.1 c.loop-i-test.false)
+returns c = run_whole _ _ _ _ _ _ _ (sym c.is_sound.ensures ∙ c.if-not-is_sound.false) c.if-steps-answers.false (ended _ _ _ _ _ _ _ _ c.loop-i.invariant.2 c.loop-i-test.false)
